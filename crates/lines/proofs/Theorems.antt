@@ -1,0 +1,119 @@
+-- Reading and writing are inverse to each other, of texts and tables and of the calls. Assumes nothing.
+use mathlib.Core.Path.{_≡_, refl, sym, ap, ap₂, _∙_}
+use mathlib.Core.List.{List, [], _∷_, _++_}
+use mathlib.Core.Bool.{Bool, true, false, not, _&&_}
+use Prim.Native.Nat.{ℕ, _*_, _/_, _%_, _≤_, _<_}
+use native.Mathlib.Nat.{mul-div-right, mul-mod-right, mul-pos}
+use native.Mathlib.Omega.{arith}
+use lib.Dec.{eqb}
+use lib.ListN.{length, take, drop, getD, take-append-drop}
+use lib.Seq.{take-at, drop-cons}
+use borrow.Author.Tests.{eq-eqb, ne-eqb, not-true}
+use Rattle.lists.specs.Records.{mapRecords, allRecords}
+use Rattle.lists.proofs.Tests.{both, left-of, right-of}
+use Rattle.lists.proofs.Records.{map-length, map-passes, map-back}
+use Rattle.lines.specs.Line.{isRow, isLine, writeLine, readLine}
+use Rattle.lines.specs.Text.{isPartial, isText, isTable, readText, writeTable}
+use Rattle.lines.specs.Refusal.{gives, Outcome, leaving}
+use Rattle.lines.specs.Calls.{over, conversion}
+use Rattle.lines.specs.Theorems.{LineIsWriting, TextIsWriting, WriteAfterRead, ReadAfterWrite, WriteCallAfterRead, ReadCallAfterWrite}
+use Rattle.lines.proofs.LineLaws.{row-length, line-length, row-back, row-line, line-row, line-back}
+use Rattle.lines.proofs.CallLaws.{Whole, whole-is, Valid, converted, conversion-done}
+
+-- ---- one line, with what stands behind it
+
+line-again : (t r : List ℕ) → isLine t ≡ true → 19 ≤ length t → writeLine (readLine t ++ r) ++ drop 19 t ≡ t
+line-again t r g h = rw (line-back t r g) (take-append-drop 19 t)
+
+row-again : (t r : List ℕ) → isRow t ≡ true → 3 ≤ length t → readLine (writeLine t ++ r) ++ drop 3 t ≡ t
+row-again t r g h = rw (row-back t r g) (rw (← drop-cons t 2 0 (omega arith), ← drop-cons t 1 0 (omega arith), ← drop-cons t 0 0 (omega arith)))
+
+-- ---- whole texts and tables
+
+whole-test : (size n : ℕ) (t : List ℕ) → 0 < size → length t ≡ size * n → 0 < n → isPartial size t ≡ false
+unfolding isPartial
+whole-test size n t p l s =
+    let some : length t ≡ 0 → ⊥ = omega (arith, mul-pos {m = size} {n = n} p s) in
+    rw (ne-eqb (length t) 0 some, eq-eqb (length t % size) 0 (ap (λ (k : ℕ). k % size) l ∙ mul-mod-right size n))
+
+valid-all : (size : ℕ) (test : List ℕ → Bool) (t : List ℕ) → not (isPartial size t) && allRecords test size (length t / size) t ≡ true → Valid size test t (length t / size)
+valid-all size test t e =
+    let w = not-true (isPartial size t) (left-of (not (isPartial size t)) _ e) in
+    record { whole = whole-is size t w; not-partial = w; right = right-of (not (isPartial size t)) _ e }
+
+all-valid : (size : ℕ) (test : List ℕ → Bool) (t : List ℕ) (n : ℕ) → Valid size test t n → not (isPartial size t) && allRecords test size (length t / size) t ≡ true
+all-valid size test t n v = rw (v .not-partial, ← v .whole .count) (v .right)
+
+-- lines of `size` elements, right by `test`, and of `width` elements, right by `other`, which `make` and `unmake` turn into each other
+module _ (size width : ℕ) (test other : List ℕ → Bool) (make unmake : List ℕ → List ℕ) (wide : (t : List ℕ) → length (make t) ≡ width)
+    (wide′ : (t : List ℕ) → length (unmake t) ≡ size) (pos : 0 < width)
+    (right : (t r : List ℕ) → test t ≡ true → other (make t ++ r) ≡ true)
+    (back : (t r : List ℕ) → test t ≡ true → size ≤ length t → unmake (make t ++ r) ++ drop size t ≡ t) where
+  module _ (t : List ℕ) (n : ℕ) (v : Valid size test t n) where
+    made : List ℕ
+    made = mapRecords make size n t
+
+    made-length : length made ≡ width * n
+    unfolding made
+    made-length = map-length make size width wide n t
+
+    made-valid : Valid width other made n
+    unfolding made
+    made-valid =
+        record {
+          whole = record { count = sym (ap (λ (k : ℕ). k / width) made-length ∙ mul-div-right n pos); long = made-length; some = v .whole .some };
+          not-partial = whole-test width n made pos made-length (v .whole .some);
+          right = map-passes test make size width wide other right n t (v .right);
+        }
+
+    made-back : mapRecords unmake width n made ≡ t
+    unfolding made
+    made-back = map-back test make size width wide unmake back n t (v .right) (v .whole .long)
+
+  -- of texts and tables
+  there-and-back : (t : List ℕ) → not (isPartial size t) && allRecords test size (length t / size) t ≡ true
+      → (mapRecords unmake width (length (mapRecords make size (length t / size) t) / width) (mapRecords make size (length t / size) t) ≡ t)
+      × (not (isPartial width (mapRecords make size (length t / size) t))
+      && allRecords other width (length (mapRecords make size (length t / size) t) / width) (mapRecords make size (length t / size) t) ≡ true)
+  unfolding made
+  there-and-back t e =
+      let n = length t / size in
+      let v = valid-all size test t e in
+      let w = made-valid t n v in
+      (rw (← w .whole .count) (made-back t n v), all-valid width other (made t n v) n w)
+
+  -- of the calls
+  call-after-call : (t b out : List ℕ) (n : ℕ) → conversion size width test make t b .result ≡ gives (n ∷ []) → length t ≤ length out
+      → conversion width size other unmake (take (width * n) (conversion size width test make t b .buffer)) out ≡ leaving (gives (n ∷ [])) (over t out)
+  unfolding made
+  call-after-call t b out n e h =
+      let k = converted size width test make t b wide n e in
+      let v = k .valid in
+      let front : take (width * n) (conversion size width test make t b .buffer) ≡ made t n v =
+      ap (take (width * n)) (k .result) ∙ take-at (made t n v) (drop (width * n) b) (width * n) (made-length t n v) in
+      let after : over t out ≡ mapRecords unmake width n (made t n v) ++ drop (size * n) out =
+      ap₂ (λ (x : List ℕ) (k : ℕ). x ++ drop k out) (sym (made-back t n v)) (v .whole .long) in
+      ap (λ (x : List ℕ). conversion width size other unmake x out) front
+      ∙ sym (conversion-done width size other unmake (made t n v) out n (made-valid t n v) wide′ (omega (arith, v .whole .long)) (over t out) after)
+
+-- ---- the theorems
+
+pub write-after-read : WriteAfterRead
+unfolding isText isTable writeTable readText
+write-after-read = there-and-back 19 3 isLine isRow readLine writeLine row-length line-length (omega arith) line-row line-again
+
+pub read-after-write : ReadAfterWrite
+unfolding isText isTable writeTable readText
+read-after-write = there-and-back 3 19 isRow isLine writeLine readLine line-length row-length (omega arith) row-line row-again
+
+pub text-is-writing : TextIsWriting
+text-is-writing t = (
+  λ e. (readText t, write-after-read t e .1, sym (write-after-read t e .0)),
+  λ x. rw (x .2) (read-after-write (x .0) (x .1) .1),
+)
+
+pub write-call-after-read : WriteCallAfterRead
+write-call-after-read = call-after-call 19 3 isLine isRow readLine writeLine row-length line-length (omega arith) line-row line-again
+
+pub read-call-after-write : ReadCallAfterWrite
+read-call-after-write = call-after-call 3 19 isRow isLine writeLine readLine line-length row-length (omega arith) row-line row-again

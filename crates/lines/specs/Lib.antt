@@ -1,0 +1,6 @@
+pub mod Number
+pub mod Line
+pub mod Text
+pub mod Refusal
+pub mod Calls
+pub mod Theorems

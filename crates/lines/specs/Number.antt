@@ -1,0 +1,29 @@
+-- 01, Lines, 1: how one number is written, and what number six columns show.
+use Prim.Native.Nat.{ℕ, zero, suc, _+_, _-_, _*_, _/_, _%_}
+use mathlib.Core.List.{List, [], _∷_, _++_}
+use lib.ListN.{length, getD, replicate}
+use lib.Dec.{ltb}
+use Rattle.lists.specs.First.{first}
+
+-- the byte of a digit
+abbrev pub digit : ℕ → ℕ
+digit d = 48 + d
+
+-- "no leading zero (zero is one digit 0)": the digits of a number that has at most k of them
+unfoldable pub digits : ℕ → ℕ → List ℕ
+digits zero n = []
+digits (suc k) n = first (ltb n 10) (digit n ∷ []) (digits k (n / 10) ++ (digit (n % 10) ∷ []))
+
+-- "right-justified in six columns, blanks (byte 32) before it"
+unfoldable pub writeNumber : ℕ → List ℕ
+writeNumber n = replicate (6 - length (digits 6 n)) 32 ++ digits 6 n
+
+-- what a column adds: a digit its value, a blank nothing
+abbrev pub columnValue : ℕ → ℕ
+columnValue b = b - 48
+
+-- the number that the first six bytes show, if they show one
+unfoldable pub readNumber : List ℕ → ℕ
+readNumber t =
+    ((((columnValue (getD t 0 0) * 10 + columnValue (getD t 1 0)) * 10 + columnValue (getD t 2 0)) * 10
+    + columnValue (getD t 3 0)) * 10 + columnValue (getD t 4 0)) * 10 + columnValue (getD t 5 0)

@@ -1,0 +1,24 @@
+-- 01, Refusals, 1: what a call gives back, whatever enum of its own it answers with.
+use Prim.Native.Nat.{ℕ}
+use mathlib.Core.List.{List, [], _∷_}
+use Rattle.lines.specs.declared.Refusal.{Refusal}
+use Rattle.lines.specs.declared.Answer.{Answer}
+use Rattle.lines.specs.declared.Answer.the-variants.{Lines, Refused}
+
+-- "The result is the number and a table", or the values that 01 names for a success.
+pub data Result : Type 0 where
+  refused : (number table : ℕ) → Result
+  gives : List ℕ → Result
+
+-- 01's numbers for the answer of the calls on lines: a success gives the number of lines.
+abbrev pub paperValues : Answer → Result
+paperValues (Lines n) = gives (n ∷ [])
+paperValues (Refused r) = refused (r .number) (r .table)
+
+-- What a call with one lent buffer gives back, and what the buffer then holds.
+pub record Outcome : Type 0 where
+  pub result : Result
+  pub buffer : List ℕ
+
+abbrev pub leaving : Result → List ℕ → Outcome
+leaving r b = record { result = r; buffer = b }

@@ -1,0 +1,39 @@
+-- The theorems about lines, as statements; each is proved under its name in proofs/.
+use Prim.Native.Nat.{ℕ, _*_, _≤_}
+use mathlib.Core.Path.{_≡_}
+use mathlib.Core.Logic.{_↔_}
+use mathlib.Core.Bool.{true}
+use mathlib.Core.List.{List, [], _∷_, _++_}
+use lib.ListN.{length, take, drop}
+use Rattle.lines.specs.Line.{isRow, isLine, writeLine}
+use Rattle.lines.specs.Text.{isText, isTable, readText, writeTable}
+use Rattle.lines.specs.Refusal.{gives, Outcome, leaving}
+use Rattle.lines.specs.Calls.{over, reading, writing}
+
+-- 19 bytes are a line exactly if they are the writing of some three numbers up to 999,999.
+abbrev pub LineIsWriting : Type 0
+LineIsWriting = (t : List ℕ) → (isLine t ≡ true) ↔ ((row : List ℕ) × (isRow row ≡ true) × (take 19 t ≡ writeLine row))
+
+-- A text is well written exactly if it is the writing of some table of numbers up to 999,999, three a line, at least one line.
+abbrev pub TextIsWriting : Type 0
+TextIsWriting = (t : List ℕ) → (isText t ≡ true) ↔ ((table : List ℕ) × (isTable table ≡ true) × (t ≡ writeTable table))
+
+-- Writing after reading gives the text back, and what was read can be written.
+abbrev pub WriteAfterRead : Type 0
+WriteAfterRead = (t : List ℕ) → isText t ≡ true → (writeTable (readText t) ≡ t) × (isTable (readText t) ≡ true)
+
+-- Reading after writing gives the table back, and what was written is well written.
+abbrev pub ReadAfterWrite : Type 0
+ReadAfterWrite = (t : List ℕ) → isTable t ≡ true → (readText (writeTable t) ≡ t) × (isText (writeTable t) ≡ true)
+
+-- The same of the calls: the n lines that a successful `read` has left in the table are written back as the text.
+abbrev pub WriteCallAfterRead : Type 0
+WriteCallAfterRead =
+    (text table out : List ℕ) (n : ℕ) → reading text table .result ≡ gives (n ∷ []) → length text ≤ length out
+    → writing (take (3 * n) (reading text table .buffer)) out ≡ leaving (gives (n ∷ [])) (over text out)
+
+-- And the n lines that a successful `write` has left in the text are read back as the table.
+abbrev pub ReadCallAfterWrite : Type 0
+ReadCallAfterWrite =
+    (table text out : List ℕ) (n : ℕ) → writing table text .result ≡ gives (n ∷ []) → length table ≤ length out
+    → reading (take (19 * n) (writing table text .buffer)) out ≡ leaving (gives (n ∷ [])) (over table out)

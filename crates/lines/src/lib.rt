@@ -1,0 +1,101 @@
+// Texts of lines of three numbers, and tables of the same numbers (01, Lines). Nothing here knows what the numbers mean.
+ghost use mathlib.Core.Path.{_≡_};
+ghost use Rattle.lines.specs.Line.{isRow};
+ghost use Rattle.lines.specs.Refusal.{paperValues, leaving};
+ghost use Rattle.lines.specs.Calls.{validation, validating, reading, writing};
+
+mod line;
+mod number;
+mod text;
+
+use text::are_lines;
+use text::are_rows;
+use text::read_lines;
+use text::write_lines;
+
+// Why a call was refused: 01's number, and the table that the fault lies in, 0 where it lies in none.
+pub struct Refusal {
+    pub number: u32,
+    pub table: u32,
+}
+
+// The number of lines that were found, read or written, or the refusal.
+pub enum Answer {
+    Lines(usize),
+    Refused(Refusal),
+}
+
+fn refused(number: u32) -> Answer
+    ensures { λ r. ⌜ r ≡ Answer.Refused (record { number = number; table = 0 }) ⌝ }
+{
+    Answer::Refused(Refusal {
+        number: number,
+        table: 0,
+    })
+}
+
+// Tests a whole text of any length: refusal 1, then 3.
+pub fn validate(text: &[u8]) -> Answer
+    ensures { λ r. ⌜ paperValues r ≡ validating (now (text .entry)) ⌝ }
+{
+    if text.len() == 0 {
+        return refused(1);
+    }
+    if text.len() % 19 != 0 {
+        return refused(1);
+    }
+    let lines = text.len() / 19;
+    if !are_lines(text, lines) {
+        return refused(3);
+    }
+    Answer::Lines(lines)
+}
+
+// Tests a whole table so.
+fn validate_table(table: &[u32]) -> Answer
+    ensures { λ r. ⌜ paperValues r ≡ validation 3 isRow (now (table .entry)) ⌝ }
+{
+    if table.len() == 0 {
+        return refused(1);
+    }
+    if table.len() % 3 != 0 {
+        return refused(1);
+    }
+    let lines = table.len() / 3;
+    if !are_rows(table, lines) {
+        return refused(3);
+    }
+    Answer::Lines(lines)
+}
+
+// Reads a text into a table.
+pub fn read(text: &[u8], table: &mut [u32]) -> Answer
+    ensures { λ r. ⌜ leaving (paperValues r) (now (table .exit)) ≡ reading (now (text .entry)) (now (table .entry)) ⌝ }
+{
+    match validate(text) {
+        Answer::Lines(lines) => {
+            if table.len() < 3 * lines {
+                return refused(2);
+            }
+            read_lines(text, table, lines);
+            Answer::Lines(lines)
+        }
+        Answer::Refused(refusal) => Answer::Refused(refusal),
+    }
+}
+
+// Writes a table as a text.
+pub fn write(table: &[u32], text: &mut [u8]) -> Answer
+    ensures { λ r. ⌜ leaving (paperValues r) (now (text .exit)) ≡ writing (now (table .entry)) (now (text .entry)) ⌝ }
+{
+    match validate_table(table) {
+        Answer::Lines(lines) => {
+            if text.len() < 19 * lines {
+                return refused(2);
+            }
+            write_lines(table, text, lines);
+            Answer::Lines(lines)
+        }
+        Answer::Refused(refusal) => Answer::Refused(refusal),
+    }
+}

@@ -1,0 +1,92 @@
+// One number in six columns.
+ghost use mathlib.Core.Path.{_≡_};
+ghost use mathlib.Core.Bool.{_&&_, _||_};
+ghost use Prim.Native.Nat.{_+_, _%_, _≤_};
+ghost use lib.Dec.{eqb, leb};
+ghost use lib.ListN.{length, take, drop};
+ghost use lib.Seq.{sets};
+ghost use Rattle.lists.specs.First.{first};
+ghost use Rattle.lists.specs.Same.{same};
+ghost use Rattle.lines.specs.Number.{digit, columnValue, readNumber, writeNumber};
+
+// What a column adds to the number.
+fn column_value(byte: u8) -> u32
+    ensures { λ r. ⌜ r ≡ columnValue byte ⌝ }
+    ensures { λ r. ⌜ r ≤ 207 ⌝ }
+{
+    if byte < 48 { 0 } else { (byte - 48) as u32 }
+}
+
+// The number that the six columns from `at` show, if they show one.
+pub fn read_number(text: &[u8], at: usize) -> u32
+    requires { ⌜ at + 6 ≤ length (now text) ⌝ }
+    ensures { λ r. ⌜ r ≡ readNumber (drop at (now (text .entry))) ⌝ }
+{
+    let a = column_value(text[at]);
+    let b = column_value(text[at + 1]);
+    let c = column_value(text[at + 2]);
+    let d = column_value(text[at + 3]);
+    let e = column_value(text[at + 4]);
+    let f = column_value(text[at + 5]);
+    ((((a * 10 + b) * 10 + c) * 10 + d) * 10 + e) * 10 + f
+}
+
+// Whether a column can stand behind the one before it: after a blank, a blank or a first digit, which is not 0; after a digit, a digit.
+fn follows(before: u8, byte: u8) -> bool
+    ensures { λ r. ⌜ r ≡ first (eqb before 32) (eqb byte 32 || (leb 49 byte && leb byte 57)) (leb 48 byte && leb byte 57) ⌝ }
+{
+    if before == 32 {
+        (byte == 32) | ((49 <= byte) & (byte <= 57))
+    } else {
+        (48 <= byte) & (byte <= 57)
+    }
+}
+
+// Whether the six columns from `at` are the writing of a number up to 999,999. This asks no division, unlike writing it to compare.
+pub fn is_number(text: &[u8], at: usize) -> bool
+    requires { ⌜ at + 6 ≤ length (now text) ⌝ }
+    ensures { λ r. ⌜ r ≡ (leb (readNumber (drop at (now (text .entry)))) 999999 && same (take 6 (drop at (now (text .entry)))) (writeNumber (readNumber (drop at (now (text .entry)))))) ⌝ }
+{
+    let a = text[at];
+    let b = text[at + 1];
+    let c = text[at + 2];
+    let d = text[at + 3];
+    let e = text[at + 4];
+    let f = text[at + 5];
+    follows(32, a)
+        & follows(a, b)
+        & follows(b, c)
+        & follows(c, d)
+        & follows(d, e)
+        & (48 <= f)
+        & (f <= 57)
+}
+
+// The byte of a column before the last, where `rest` is the number without the columns behind it.
+fn column(rest: u32) -> u8
+    ensures { λ r. ⌜ r ≡ first (eqb rest 0) 32 (digit (rest % 10)) ⌝ }
+{
+    if rest == 0 {
+        32
+    } else {
+        (48 + rest % 10) as u8
+    }
+}
+
+// Writes a number into the six columns from `at`.
+pub fn write_number(text: &mut [u8], at: usize, n: u32)
+    requires { ⌜ at + 6 ≤ length (now text) ⌝ }
+    ensures { λ _. ⌜ now (text .exit) ≡ sets (now (text .entry)) at (writeNumber n) ⌝ }
+{
+    let e = n / 10;
+    let d = e / 10;
+    let c = d / 10;
+    let b = c / 10;
+    let a = b / 10;
+    text[at] = column(a);
+    text[at + 1] = column(b);
+    text[at + 2] = column(c);
+    text[at + 3] = column(d);
+    text[at + 4] = column(e);
+    text[at + 5] = (48 + n % 10) as u8;
+}

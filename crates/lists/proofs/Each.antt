@@ -1,0 +1,46 @@
+-- Laws of `appendEach`, and loops that compute it in place: each new value is stored behind those before it. Assumes nothing.
+use mathlib.Core.Path.{_≡_, refl, sym, ap, _∙_}
+use mathlib.Core.List.{List, [], _∷_, _++_, append-assoc}
+use Prim.Native.Nat.{ℕ, zero, suc, _+_, _≤_, _<_}
+use native.Mathlib.Nat.{add-zero, add-suc, suc-add}
+use native.Mathlib.Omega.{arith}
+use lib.ListN.{length, take, drop, getD, set, length-set, length-append, drop-of-length-le, List·getD-append}
+use lib.Seq.{take-suc-set}
+use Rattle.lists.specs.Each.{appendEach}
+
+module _ {A B : Type 0} (make : A → List B → B) where
+  pub each-length : (xs : List A) (vs : List B) → length (appendEach make xs vs) ≡ length vs + length xs
+  unfolding appendEach
+  each-length [] vs = sym (add-zero (length vs))
+  each-length (x ∷ xs) vs = each-length xs (vs ++ (make x vs ∷ [])) ∙ omega (arith, length-append vs (make x vs ∷ []))
+
+  -- later values leave those before them as they are
+  pub each-front : (xs : List A) (vs : List B) (i : ℕ) (z : B) → i < length vs → getD (appendEach make xs vs) i z ≡ getD vs i z
+  unfolding appendEach
+  each-front [] vs i z h = refl
+  each-front (x ∷ xs) vs i z h =
+      each-front xs (vs ++ (make x vs ∷ [])) i z (omega (arith, length-append vs (make x vs ∷ []))) ∙ List·getD-append vs (make x vs ∷ []) z i h
+
+-- the first m + i places of d hold the first i values behind `start`, m of them
+pub record Filled {A B : Type 0} (make : A → List B → B) (xs : List A) (start : List B) (m size : ℕ) (d : List B) (i : ℕ) : Type 0 where
+  pub values : appendEach make (drop i xs) (take (m + i) d) ≡ appendEach make xs start
+  pub long : length d ≡ size
+
+module _ {A B : Type 0} (make : A → List B → B) (xs : List A) (start : List B) (m size : ℕ) (d : List B) where
+  pub filled-none : take m d ≡ start → length d ≡ size → Filled make xs start m size d 0
+  filled-none e l = record { values = rw (add-zero, e); long = l }
+
+  pub filled-more : (i : ℕ) (v : B) (x : A) → Filled make xs start m size d i → drop i xs ≡ x ∷ drop (i + 1) xs → m + i < size
+      → v ≡ make x (take (m + i) d) → Filled make xs start m size (set d (m + i) v) (i + 1)
+  unfolding appendEach
+  filled-more i v x f e h q =
+      let s : m + (i + 1) ≡ suc (m + i) = omega arith in
+      let b : m + i < length d = omega (arith, f .long) in
+      record {
+        values = rw (s, take-suc-set d (m + i) v b, q) (rw e at (f .values));
+        long = rw length-set (f .long);
+      }
+
+  pub filled-all : (i : ℕ) → Filled make xs start m size d i → length xs ≤ i → take (m + i) d ≡ appendEach make xs start
+  unfolding appendEach
+  filled-all i f h = rw (drop-of-length-le xs h) at (f .values)

@@ -1,0 +1,23 @@
+-- Tests as Bools. Assumes nothing.
+use mathlib.Core.Path.{_≡_, refl, sym, _∙_}
+use mathlib.Core.Logic.{_↔_}
+use mathlib.Core.Bool.{Bool, true, false, not, _&&_, _||_}
+
+-- two tests are one where each says what the other says
+pub same-test : (a b : Bool) → (a ≡ true → b ≡ true) → (b ≡ true → a ≡ true) → a ≡ b
+same-test true b f g = sym (f refl)
+same-test false true f g = g refl
+same-test false false f g = refl
+
+-- a conjunction, taken apart and put together
+pub both : {a b : Bool} → a ≡ true → b ≡ true → a && b ≡ true
+both e f = rw (e, f)
+
+pub left-of : (a b : Bool) → a && b ≡ true → a ≡ true
+left-of true b e = refl
+left-of false b e = e
+
+pub right-of : (a b : Bool) → a && b ≡ true → b ≡ true
+right-of true b e = e
+right-of false true e = refl
+right-of false false e = e

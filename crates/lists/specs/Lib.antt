@@ -1,0 +1,4 @@
+pub mod First
+pub mod Same
+pub mod Records
+pub mod Each
