@@ -2,15 +2,16 @@
 use mathlib.Core.Path.{_≡_, refl, sym, ap, ap₂, _∙_}
 use mathlib.Core.List.{List, [], _∷_, _++_}
 use mathlib.Core.Bool.{Bool, true, false, not, _||_}
-use Prim.Native.Nat.{ℕ, _*_, _/_, _%_, _≤_, _<_}
-use native.Mathlib.Nat.{div-add-mod, mul-zero}
+use Prim.Native.Nat.{ℕ, suc, _+_, _*_, _/_, _%_, _≤_, _<_}
+use native.Mathlib.Nat.{div-add-mod, mul-zero, mul-suc, mul-le-mul-left}
 use native.Mathlib.Omega.{arith}
 use lib.Dec.{eqb, ltb}
-use lib.ListN.{length, drop}
+use lib.ListN.{length, take, drop, getD, length-append, length-drop, List·getD-append}
+use lib.Seq.{take-at}
 use borrow.Author.Tests.{eq-eqb, ne-eqb, eqb-true, eqb-false, lt-ltb, le-ltb, ltb-false, not-false}
 use Rattle.lists.specs.First.{first}
 use Rattle.lists.specs.Records.{mapRecords, allRecords}
-use Rattle.lists.proofs.Records.{map-length}
+use Rattle.lists.proofs.Records.{map-length, map-at}
 use Rattle.lines.specs.Text.{isPartial}
 use Rattle.lines.specs.Refusal.{Result, refused, gives, Outcome, leaving}
 use Rattle.lines.specs.Calls.{validation, conversion, over}
@@ -172,3 +173,21 @@ module _ (size width : ℕ) (test : List ℕ → Bool) (make : List ℕ → List
   turned-away number table e =
       let m = length source / size in
       chain-refusal (isPartial size source) (allRecords test size m source) (ltb (length buffer) (width * m)) m number table buffer (over (mapRecords make size m source) buffer) e
+
+-- the elements that a success has left: element j of line i, and all of them
+module _ (size width : ℕ) (test : List ℕ → Bool) (make : List ℕ → List ℕ) (wide : (t : List ℕ) → length (make t) ≡ width) (source buffer after : List ℕ) (n : ℕ)
+    (k : Converted size width test make source buffer after n) where
+  pub converted-at : (i j : ℕ) → i < n → j < width → getD after (width * i + j) 0 ≡ getD (make (drop (size * i) source)) j 0
+  converted-at i j h l =
+      let next : width * suc i ≤ width * n = mul-le-mul-left width h in
+      let inside : width * i + j < length (mapRecords make size n source) = rw (map-length make size width wide n source) (omega (arith, mul-suc width i)) in
+      ap (λ (x : List ℕ). getD x (width * i + j) 0) (k .result)
+      ∙ List·getD-append (mapRecords make size n source) (drop (width * n) buffer) 0 (width * i + j) inside ∙ map-at make size width wide i n j source 0 h l
+
+  pub converted-all : take (width * n) after ≡ mapRecords make size n source
+  converted-all = ap (take (width * n)) (k .result) ∙ take-at (mapRecords make size n source) (drop (width * n) buffer) (width * n) (map-length make size width wide n source)
+
+  pub converted-length : length after ≡ length buffer
+  converted-length =
+      ap length (k .result) ∙ length-append (mapRecords make size n source) (drop (width * n) buffer)
+      ∙ ap₂ _+_ (map-length make size width wide n source) (length-drop (width * n) buffer) ∙ omega (arith, k .room)

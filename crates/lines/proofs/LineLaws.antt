@@ -1,22 +1,20 @@
 -- One line: its parts, the test of its parts, and reading back what was written. Assumes nothing.
-use mathlib.Core.Path.{_≡_, refl, sym, ap, ap₂, _∙_, subst}
-use mathlib.Core.Logic.{_↔_}
+use mathlib.Core.Path.{_≡_, refl, sym, ap, ap₂, _∙_}
 use mathlib.Core.Bool.{Bool, true, false, _&&_, and-true, and-false, and-assoc}
 use mathlib.Core.List.{List, [], _∷_, _++_, append-assoc}
-use Prim.Native.Nat.{ℕ, suc, _+_, _≤_}
+use Prim.Native.Nat.{ℕ, _+_, _≤_}
 use native.Mathlib.Nat.{add-zero}
 use native.Mathlib.Omega.{arith}
 use lib.Dec.{eqb, leb}
-use lib.ListN.{length, take, drop, getD, set, length-append, length-drop, take-append-drop}
-use lib.Seq.{sets, take-add, drop-drop, drop-cons, getD-drop, take-at, drop-at, length-take-le, take-append-le}
-use borrow.Author.Tests.{eq-eqb, eqb-true, le-leb, leb-true}
+use lib.ListN.{length, take, drop, getD, set, length-append, length-drop}
+use lib.Seq.{sets, take-add, drop-drop, drop-cons, getD-drop, take-at, drop-at, length-take-le}
+use borrow.Author.Tests.{leb-true}
 use Rattle.lists.specs.Same.{same}
-use Rattle.lists.proofs.Tests.{same-test, both, left-of, right-of}
+use Rattle.lists.proofs.Tests.{both, left-of, right-of}
 use Rattle.lists.proofs.Same.{same-refl, same-is, same-append}
 use Rattle.lists.proofs.Stores.{sets-append}
 use Rattle.lines.specs.Number.{writeNumber, readNumber}
 use Rattle.lines.specs.Line.{isRow, isLine, writeLine, readLine}
-use Rattle.lines.specs.Theorems.{LineIsWriting}
 use Rattle.lines.proofs.NumberLaws.{isNumber, number-length, read-back}
 
 -- ---- lengths
@@ -163,9 +161,3 @@ line-row t r g = left-of (isRow (readLine t)) (same (take 19 t) (writeLine (read
 pub line-back : (t r : List ℕ) → isLine t ≡ true → writeLine (readLine t ++ r) ≡ take 19 t
 unfolding writeLine readLine isLine
 line-back t r g = sym (same-is (take 19 t) (writeLine (readLine t)) (right-of (isRow (readLine t)) (same (take 19 t) (writeLine (readLine t))) g))
-
-pub line-is-writing : LineIsWriting
-line-is-writing t = (
-  λ g. (readLine t ++ [], line-row t [] g, sym (line-back t [] g)),
-  λ x. subst (λ l. isLine l ≡ true) (ap (λ (l : List ℕ). l ++ drop 19 t) (sym (x .2)) ∙ take-append-drop 19 t) (row-line (x .0) (drop 19 t) (x .1)),
-)

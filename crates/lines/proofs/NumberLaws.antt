@@ -9,7 +9,7 @@ use native.Mathlib.Omega.{arith}
 use lib.Dec.{eqb, leb, ltb}
 use lib.ListN.{length, take, drop, getD, replicate, length-append, length-drop, replicate-append-replicate}
 use lib.Seq.{getD-drop}
-use borrow.Author.Tests.{eq-eqb, ne-eqb, le-leb, eqb-true, eqb-false, leb-true, ltb-true, ltb-false}
+use borrow.Author.Tests.{ne-eqb, le-leb, eqb-true, eqb-false, leb-true, ltb-true, ltb-false}
 use Rattle.lists.specs.First.{first}
 use Rattle.lists.specs.Same.{same}
 use Rattle.lists.proofs.Tests.{same-test, both, left-of, right-of}

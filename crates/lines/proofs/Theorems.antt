@@ -1,24 +1,25 @@
 -- Reading and writing are inverse to each other, of texts and tables and of the calls. Assumes nothing.
-use mathlib.Core.Path.{_≡_, refl, sym, ap, ap₂, _∙_}
+use mathlib.Core.Path.{_≡_, refl, sym, ap, ap₂, _∙_, subst}
 use mathlib.Core.List.{List, [], _∷_, _++_}
 use mathlib.Core.Bool.{Bool, true, false, not, _&&_}
 use Prim.Native.Nat.{ℕ, _*_, _/_, _%_, _≤_, _<_}
 use native.Mathlib.Nat.{mul-div-right, mul-mod-right, mul-pos}
 use native.Mathlib.Omega.{arith}
-use lib.Dec.{eqb}
-use lib.ListN.{length, take, drop, getD, take-append-drop}
-use lib.Seq.{take-at, drop-cons}
-use borrow.Author.Tests.{eq-eqb, ne-eqb, not-true}
+use lib.Dec.{ltb}
+use lib.ListN.{length, take, drop, take-append-drop}
+use lib.Seq.{drop-cons}
+use borrow.Author.Tests.{eq-eqb, ne-eqb, ltb-true, ltb-false, not-true}
+use Rattle.lists.specs.First.{first}
 use Rattle.lists.specs.Records.{mapRecords, allRecords}
-use Rattle.lists.proofs.Tests.{both, left-of, right-of}
+use Rattle.lists.proofs.Tests.{left-of, right-of}
 use Rattle.lists.proofs.Records.{map-length, map-passes, map-back}
 use Rattle.lines.specs.Line.{isRow, isLine, writeLine, readLine}
 use Rattle.lines.specs.Text.{isPartial, isText, isTable, readText, writeTable}
-use Rattle.lines.specs.Refusal.{gives, Outcome, leaving}
+use Rattle.lines.specs.Refusal.{refused, gives, leaving}
 use Rattle.lines.specs.Calls.{over, conversion}
-use Rattle.lines.specs.Theorems.{LineIsWriting, TextIsWriting, WriteAfterRead, ReadAfterWrite, WriteCallAfterRead, ReadCallAfterWrite}
+use Rattle.lines.specs.Theorems.{LineIsWriting, TextIsWriting, WriteAfterRead, ReadAfterWrite, givenBack, WriteCallAfterRead, ReadCallAfterWrite}
 use Rattle.lines.proofs.LineLaws.{row-length, line-length, row-back, row-line, line-row, line-back}
-use Rattle.lines.proofs.CallLaws.{Whole, whole-is, Valid, converted, conversion-done}
+use Rattle.lines.proofs.CallLaws.{whole-is, Valid, converted, converted-all, conversion-short, conversion-done}
 
 -- ---- one line, with what stands behind it
 
@@ -83,20 +84,33 @@ module _ (size width : ℕ) (test other : List ℕ → Bool) (make unmake : List
       (rw (← w .whole .count) (made-back t n v), all-valid width other (made t n v) n w)
 
   -- of the calls
-  call-after-call : (t b out : List ℕ) (n : ℕ) → conversion size width test make t b .result ≡ gives (n ∷ []) → length t ≤ length out
-      → conversion width size other unmake (take (width * n) (conversion size width test make t b .buffer)) out ≡ leaving (gives (n ∷ [])) (over t out)
-  unfolding made
-  call-after-call t b out n e h =
-      let k = converted size width test make t b wide n e in
-      let v = k .valid in
-      let front : take (width * n) (conversion size width test make t b .buffer) ≡ made t n v =
-      ap (take (width * n)) (k .result) ∙ take-at (made t n v) (drop (width * n) b) (width * n) (made-length t n v) in
+  given-back : (t out : List ℕ) (n : ℕ) (v : Valid size test t n) (short : Bool) → ltb (length out) (length t) ≡ short
+      → first short (leaving (refused 2 0) out) (leaving (gives (n ∷ [])) (over t out)) ≡ conversion width size other unmake (made t n v) out
+  given-back t out n v true e =
+      let h : length out < size * n = rw (← v .whole .long) (ltb-true (length out) (length t) e) in
+      conversion-short width size other unmake (made t n v) out n (made-valid t n v) (refused 2 0) refl h
+  given-back t out n v false e =
+      let h : size * n ≤ length out = rw (← v .whole .long) (ltb-false (length out) (length t) e) in
       let after : over t out ≡ mapRecords unmake width n (made t n v) ++ drop (size * n) out =
       ap₂ (λ (x : List ℕ) (k : ℕ). x ++ drop k out) (sym (made-back t n v)) (v .whole .long) in
-      ap (λ (x : List ℕ). conversion width size other unmake x out) front
-      ∙ sym (conversion-done width size other unmake (made t n v) out n (made-valid t n v) wide′ (omega (arith, v .whole .long)) (over t out) after)
+      conversion-done width size other unmake (made t n v) out n (made-valid t n v) wide′ h (over t out) after
+
+  call-after-call : (t b out : List ℕ) (n : ℕ) → conversion size width test make t b .result ≡ gives (n ∷ [])
+      → conversion width size other unmake (take (width * n) (conversion size width test make t b .buffer)) out ≡ givenBack n t out
+  unfolding made
+  call-after-call t b out n e =
+      let k = converted size width test make t b wide n e in
+      let v = k .valid in
+      ap (λ (x : List ℕ). conversion width size other unmake x out) (converted-all size width test make wide t b _ n k)
+      ∙ sym (given-back t out n v (ltb (length out) (length t)) refl)
 
 -- ---- the theorems
+
+pub line-is-writing : LineIsWriting
+line-is-writing t = (
+  λ g. (readLine t ++ [], line-row t [] g, sym (line-back t [] g)),
+  λ x. subst (λ l. isLine l ≡ true) (ap (λ (l : List ℕ). l ++ drop 19 t) (sym (x .2)) ∙ take-append-drop 19 t) (row-line (x .0) (drop 19 t) (x .1)),
+)
 
 pub write-after-read : WriteAfterRead
 unfolding isText isTable writeTable readText

@@ -1,5 +1,5 @@
 -- What each call on lines gives back, and what its lent buffer then holds, for every input.
-use Prim.Native.Nat.{ℕ, _*_, _/_}
+use Prim.Native.Nat.{ℕ, _+_, _*_, _/_}
 use mathlib.Core.Bool.{Bool, not}
 use mathlib.Core.List.{List, [], _∷_, _++_}
 use lib.ListN.{length, drop}
@@ -10,7 +10,7 @@ use Rattle.lines.specs.Line.{isRow, isLine, writeLine, readLine}
 use Rattle.lines.specs.Text.{isPartial}
 use Rattle.lines.specs.Refusal.{Result, refused, gives, Outcome, leaving}
 
--- "also for a text or table read or written by itself": the table number of all refusals here
+-- 01, Refusals, 1: the table that a refusal names where a text or table is read or written by itself
 abbrev pub alone : ℕ
 alone = 0
 
@@ -21,11 +21,11 @@ validation size test source =
     (first (not (allRecords test size (length source / size) source)) (refused 3 alone)
     (gives (length source / size ∷ [])))
 
--- a lent buffer after a success: the result, and beyond it "their old contents"
+-- a lent buffer after a success: the result, and beyond it the old contents (01, Agreed, 1)
 abbrev pub over : List ℕ → List ℕ → List ℕ
 over new old = new ++ drop (length new) old
 
--- "Reading or writing alone tests 1, 3, 2", where lines of `size` elements, right by `test`, become lines of `width` elements by `make`.
+-- 01, Refusals, 3: reading and writing by themselves test 1, then 3, then 2. Here lines of `size` elements, right by `test`, become lines of `width` elements by `make`.
 unfoldable pub conversion : (size width : ℕ) (test : List ℕ → Bool) (make : List ℕ → List ℕ) (source buffer : List ℕ) → Outcome
 conversion size width test make source buffer =
     first (isPartial size source) (leaving (refused 1 alone) buffer)

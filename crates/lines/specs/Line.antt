@@ -1,4 +1,4 @@
--- 01, Lines, 1: a line is "three numbers from 0 to 999,999", each in six columns, "then byte 10".
+-- 01, Lines, 1: a line is three numbers up to 999,999, each in six columns, and byte 10.
 use Prim.Native.Nat.{ℕ}
 use mathlib.Core.Bool.{Bool, _&&_}
 use mathlib.Core.List.{List, [], _∷_, _++_}

@@ -1,4 +1,4 @@
--- 01, Lines, 1: how one number is written, and what number six columns show.
+-- 01, Lines, 1: how a number stands in its six columns, and what number six columns show.
 use Prim.Native.Nat.{ℕ, zero, suc, _+_, _-_, _*_, _/_, _%_}
 use mathlib.Core.List.{List, [], _∷_, _++_}
 use lib.ListN.{length, getD, replicate}
@@ -9,12 +9,12 @@ use Rattle.lists.specs.First.{first}
 abbrev pub digit : ℕ → ℕ
 digit d = 48 + d
 
--- "no leading zero (zero is one digit 0)": the digits of a number that has at most k of them
+-- The digits of a number that has at most k of them. The first is not 0, but for the number 0 itself, which is the one digit 0.
 unfoldable pub digits : ℕ → ℕ → List ℕ
 digits zero n = []
 digits (suc k) n = first (ltb n 10) (digit n ∷ []) (digits k (n / 10) ++ (digit (n % 10) ∷ []))
 
--- "right-justified in six columns, blanks (byte 32) before it"
+-- Right-justified: the digits end in the sixth column, and the columns before them are blanks, byte 32.
 unfoldable pub writeNumber : ℕ → List ℕ
 writeNumber n = replicate (6 - length (digits 6 n)) 32 ++ digits 6 n
 

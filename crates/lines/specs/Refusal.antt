@@ -1,11 +1,10 @@
 -- 01, Refusals, 1: what a call gives back, whatever enum of its own it answers with.
 use Prim.Native.Nat.{ℕ}
 use mathlib.Core.List.{List, [], _∷_}
-use Rattle.lines.specs.declared.Refusal.{Refusal}
 use Rattle.lines.specs.declared.Answer.{Answer}
 use Rattle.lines.specs.declared.Answer.the-variants.{Lines, Refused}
 
--- "The result is the number and a table", or the values that 01 names for a success.
+-- A refusal is its number and a table; a success is the values that 01 names for the call.
 pub data Result : Type 0 where
   refused : (number table : ℕ) → Result
   gives : List ℕ → Result

@@ -1,13 +1,15 @@
 -- The theorems about lines, as statements; each is proved under its name in proofs/.
-use Prim.Native.Nat.{ℕ, _*_, _≤_}
+use Prim.Native.Nat.{ℕ, _*_}
 use mathlib.Core.Path.{_≡_}
 use mathlib.Core.Logic.{_↔_}
 use mathlib.Core.Bool.{true}
-use mathlib.Core.List.{List, [], _∷_, _++_}
-use lib.ListN.{length, take, drop}
+use mathlib.Core.List.{List, [], _∷_}
+use lib.Dec.{ltb}
+use lib.ListN.{length, take}
+use Rattle.lists.specs.First.{first}
 use Rattle.lines.specs.Line.{isRow, isLine, writeLine}
 use Rattle.lines.specs.Text.{isText, isTable, readText, writeTable}
-use Rattle.lines.specs.Refusal.{gives, Outcome, leaving}
+use Rattle.lines.specs.Refusal.{refused, gives, Outcome, leaving}
 use Rattle.lines.specs.Calls.{over, reading, writing}
 
 -- 19 bytes are a line exactly if they are the writing of some three numbers up to 999,999.
@@ -26,14 +28,18 @@ WriteAfterRead = (t : List ℕ) → isText t ≡ true → (writeTable (readText 
 abbrev pub ReadAfterWrite : Type 0
 ReadAfterWrite = (t : List ℕ) → isTable t ≡ true → (readText (writeTable t) ≡ t) × (isText (writeTable t) ≡ true)
 
--- The same of the calls: the n lines that a successful `read` has left in the table are written back as the text.
+-- The same of the calls. What a second call gives that is handed what the first has left, where it gives the first one's source back: into `out`, if that has room.
+abbrev pub givenBack : ℕ → (source out : List ℕ) → Outcome
+givenBack n source out = first (ltb (length out) (length source)) (leaving (refused 2 0) out) (leaving (gives (n ∷ [])) (over source out))
+
+-- The n lines that a successful `read` has left in the table are written back as the text.
 abbrev pub WriteCallAfterRead : Type 0
 WriteCallAfterRead =
-    (text table out : List ℕ) (n : ℕ) → reading text table .result ≡ gives (n ∷ []) → length text ≤ length out
-    → writing (take (3 * n) (reading text table .buffer)) out ≡ leaving (gives (n ∷ [])) (over text out)
+    (text table out : List ℕ) (n : ℕ) → reading text table .result ≡ gives (n ∷ [])
+    → writing (take (3 * n) (reading text table .buffer)) out ≡ givenBack n text out
 
--- And the n lines that a successful `write` has left in the text are read back as the table.
+-- The n lines that a successful `write` has left in the text are read back as the table.
 abbrev pub ReadCallAfterWrite : Type 0
 ReadCallAfterWrite =
-    (table text out : List ℕ) (n : ℕ) → writing table text .result ≡ gives (n ∷ []) → length table ≤ length out
-    → reading (take (19 * n) (writing table text .buffer)) out ≡ leaving (gives (n ∷ [])) (over table out)
+    (table text out : List ℕ) (n : ℕ) → writing table text .result ≡ gives (n ∷ [])
+    → reading (take (19 * n) (writing table text .buffer)) out ≡ givenBack n table out

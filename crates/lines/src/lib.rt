@@ -4,12 +4,13 @@ ghost use Rattle.lines.specs.Line.{isRow};
 ghost use Rattle.lines.specs.Refusal.{paperValues, leaving};
 ghost use Rattle.lines.specs.Calls.{validation, validating, reading, writing};
 
+mod checking;
 mod line;
 mod number;
 mod text;
 
-use text::are_lines;
-use text::are_rows;
+use checking::are_lines;
+use checking::are_rows;
 use text::read_lines;
 use text::write_lines;
 
@@ -61,11 +62,11 @@ fn validate_table(table: &[u32]) -> Answer
     if table.len() % 3 != 0 {
         return refused(1);
     }
-    let lines = table.len() / 3;
-    if !are_rows(table, lines) {
+    let rows = table.len() / 3;
+    if !are_rows(table, rows) {
         return refused(3);
     }
-    Answer::Lines(lines)
+    Answer::Lines(rows)
 }
 
 // Reads a text into a table.
@@ -89,12 +90,12 @@ pub fn write(table: &[u32], text: &mut [u8]) -> Answer
     ensures { λ r. ⌜ leaving (paperValues r) (now (text .exit)) ≡ writing (now (table .entry)) (now (text .entry)) ⌝ }
 {
     match validate_table(table) {
-        Answer::Lines(lines) => {
-            if text.len() < 19 * lines {
+        Answer::Lines(rows) => {
+            if text.len() < 19 * rows {
                 return refused(2);
             }
-            write_lines(table, text, lines);
-            Answer::Lines(lines)
+            write_lines(table, text, rows);
+            Answer::Lines(rows)
         }
         Answer::Refused(refusal) => Answer::Refused(refusal),
     }

@@ -1,5 +1,5 @@
 -- The cases of `first`. Assumes nothing.
-use mathlib.Core.Path.{_≡_, refl}
+use mathlib.Core.Path.{_≡_}
 use mathlib.Core.Bool.{Bool, true, false}
 use Rattle.lists.specs.First.{first}
 

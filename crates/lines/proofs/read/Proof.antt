@@ -1,23 +1,16 @@
+use mathlib.Core.Path.{sym, ap, _∙_}
+use native.Mathlib.Omega.{arith}
 use borrow.Author.Needs.{needs}
-use Rattle.lines.proofs.CallLaws.{Valid, valid-is, conversion-refused, conversion-short, conversion-done}
-use Rattle.lines.proofs.LineLaws.{row-length}
 use Rattle.lines.specs.Refusal.{paperValues}
 use Rattle.lines.specs.Line.{isLine, readLine}
-use native.Mathlib.Omega.{arith}
-use mathlib.Core.Path.{sym, ap, _∙_}
+use Rattle.lines.proofs.CallLaws.{Valid, valid-is, conversion-refused, conversion-short, conversion-done}
+use Rattle.lines.proofs.LineLaws.{row-length}
 use Rattle.lines.proofs.read.Statement.{statement}
 use Rattle.lines.proofs.read.Tie as tie
-use Rattle.lines.proofs.read.Reads as reads
-use Rattle.lines.proofs.read.Lts as lts
-use Rattle.lines.proofs.refused.Reads as refused-reads
-use Rattle.lines.proofs.text.read_lines.Reads as read-lines-reads
-use Rattle.lines.proofs.validate.Reads as validate-reads
 
--- src/lib.rt:75:11
 validate-requires : tie.Need-validate-requires
 validate-requires c κs = search needs
 
--- src/lib.rt:76:23
 enum-known-lines : tie.Need-enum-known-lines
 enum-known-lines c = search needs
 
@@ -25,40 +18,32 @@ enum-known-lines c = search needs
 valid : (c : tie.After-known-told) → Valid 19 isLine (c .before .before .before .before .before .before .args .text .now) (c .before .lines .given .0 .0)
 valid c = valid-is 19 isLine _ _ (sym (c .before .before .before .validate .ensures) ∙ ap paperValues (c .before .lines .given .1))
 
--- src/lib.rt:77:30
 mul-if1 : tie.Need-mul-if1
 mul-if1 c = omega (arith, valid c .whole .long)
 
--- src/lib.rt:78:17
 refused-requires : tie.Need-refused-requires
 refused-requires c κs = search needs
 
--- src/lib.rt:78:17
 returns : tie.Need-returns
 returns c =
     let v = valid (c .before .before) in
     conversion-short 19 3 isLine readLine _ _ _ v _ (ap paperValues (c .refused .ensures)) (c .before .if1 .taken)
 
--- src/lib.rt:80:13
 read-lines-requires : tie.Need-read-lines-requires
 read-lines-requires c κs = omega (arith, valid (c .before .before) .whole .long)
 
--- src/lib.rt:83:25
 enum-known-refusal : tie.Need-enum-known-refusal
 enum-known-refusal c = search needs
 
--- src/lib.rt:72:1
 same-length : tie.Need-same-length
 same-length c = search needs
 
--- src/lib.rt:72:1
 returns-2 : tie.Need-returns-2
 returns-2 c =
     let t = c .before .before .before .before in
     let v = valid (t .before) in
     conversion-done 19 3 isLine readLine _ _ _ v row-length (t .if1 .left) _ (c .before .before .read-lines .ensures)
 
--- src/lib.rt:72:1
 returns-3 : tie.Need-returns-3
 returns-3 c =
     conversion-refused 19 3 isLine readLine _ _ _ _ (sym (c .before .before .before .validate .ensures) ∙ ap paperValues (c .before .refusal .given .1))

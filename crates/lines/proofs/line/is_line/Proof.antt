@@ -1,41 +1,30 @@
+use native.Mathlib.Omega.{arith}
 use borrow.Author.Needs.{needs}
 use Rattle.lines.proofs.LineLaws.{line-test-at}
-use native.Mathlib.Omega.{arith}
 use Rattle.lines.proofs.line.is_line.Statement.{statement}
 use Rattle.lines.proofs.line.is_line.Tie as tie
-use Rattle.lines.proofs.line.is_line.Reads as reads
-use Rattle.lines.proofs.line.is_line.Lts as lts
-use Rattle.lines.proofs.number.is_number.Reads as is-number-reads
 
--- src/line.rt:16:9
 is-number-requires : tie.Need-is-number-requires
 is-number-requires c κs = search needs
 
--- src/line.rt:17:29
 add-is-number : tie.Need-add-is-number
 add-is-number c = search needs
 
--- src/line.rt:17:9
 is-number-requires-2 : tie.Need-is-number-requires-2
 is-number-requires-2 c κs = search needs
 
--- src/line.rt:18:29
 add-is-number-2 : tie.Need-add-is-number-2
 add-is-number-2 c = search needs
 
--- src/line.rt:18:9
 is-number-requires-3 : tie.Need-is-number-requires-3
 is-number-requires-3 c κs = search needs
 
--- src/line.rt:19:20
 add-end : tie.Need-add-end
 add-end c = search needs
 
--- src/line.rt:19:15
 shared-slice-read-end : tie.Need-shared-slice-read-end
 shared-slice-read-end c = search needs
 
--- src/line.rt:12:1
 returns : tie.Need-returns
 returns c =
     let s = c .before .before .before .before .before in

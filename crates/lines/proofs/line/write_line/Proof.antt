@@ -1,78 +1,58 @@
+use native.Mathlib.Omega.{arith}
+use lib.ListN.{length-set}
 use borrow.Author.Needs.{needs}
 use Rattle.lines.proofs.LineLaws.{line-stores-at}
-use lib.ListN.{length-set}
-use native.Mathlib.Omega.{arith}
 use Rattle.lines.proofs.line.write_line.Statement.{statement}
 use Rattle.lines.proofs.line.write_line.Tie as tie
-use Rattle.lines.proofs.line.write_line.Reads as reads
-use Rattle.lines.proofs.line.write_line.Lts as lts
-use Rattle.lines.proofs.number.write_number.Reads as write-number-reads
 
--- src/line.rt:51:28
 mul-write-number : tie.Need-mul-write-number
 mul-write-number c = search needs
 
--- src/line.rt:51:28
 shared-slice-read-write-number : tie.Need-shared-slice-read-write-number
 shared-slice-read-write-number c = search needs
 
--- src/line.rt:51:5
 write-number-requires : tie.Need-write-number-requires
 write-number-requires c κs = search needs
 
--- src/line.rt:52:24
 add-write-number : tie.Need-add-write-number
 add-write-number c = search needs
 
--- src/line.rt:52:38
 add-write-number-2 : tie.Need-add-write-number-2
 add-write-number-2 c = search needs
 
--- src/line.rt:52:32
 mul-write-number-2 : tie.Need-mul-write-number-2
 mul-write-number-2 c = search needs
 
--- src/line.rt:52:32
 shared-slice-read-write-number-2 : tie.Need-shared-slice-read-write-number-2
 shared-slice-read-write-number-2 c = search needs
 
--- src/line.rt:52:5
 write-number-requires-2 : tie.Need-write-number-requires-2
 write-number-requires-2 c κs = search needs
 
--- src/line.rt:53:24
 add-write-number-3 : tie.Need-add-write-number-3
 add-write-number-3 c = search needs
 
--- src/line.rt:53:39
 add-write-number-4 : tie.Need-add-write-number-4
 add-write-number-4 c = search needs
 
--- src/line.rt:53:33
 mul-write-number-3 : tie.Need-mul-write-number-3
 mul-write-number-3 c = search needs
 
--- src/line.rt:53:33
 shared-slice-read-write-number-3 : tie.Need-shared-slice-read-write-number-3
 shared-slice-read-write-number-3 c = search needs
 
--- src/line.rt:53:5
 write-number-requires-3 : tie.Need-write-number-requires-3
 write-number-requires-3 c κs = search needs
 
--- src/line.rt:54:10
 add-text : tie.Need-add-text
 add-text c = search needs
 
--- src/line.rt:54:5
 slice-write-text : tie.Need-slice-write-text
 slice-write-text c = search needs
 
--- src/line.rt:46:1
 same-length : tie.Need-same-length
 same-length c = simp length-set (omega arith)
 
--- src/line.rt:46:1
 returns : tie.Need-returns
 returns c =
     let s = c .before .before .before .before .before .before .before .before .before .before .before .before .before .before .before .before .before in

@@ -2,22 +2,16 @@ use borrow.Author.Needs.{needs}
 use borrow.Author.Tests.{eq-eqb, ne-eqb}
 use Rattle.lines.proofs.number.column.Statement.{statement}
 use Rattle.lines.proofs.number.column.Tie as tie
-use Rattle.lines.proofs.number.column.Reads as reads
-use Rattle.lines.proofs.number.column.Lts as lts
 
--- src/number.rt:71:10
 add-result : tie.Need-add-result
 add-result c = search needs
 
--- src/number.rt:71:9
 cast-result : tie.Need-cast-result
 cast-result c = search needs
 
--- src/number.rt:65:1
 returns : tie.Need-returns
 returns c = simp (eq-eqb _ _ (c .if1 .taken))
 
--- src/number.rt:65:1
 returns-2 : tie.Need-returns-2
 returns-2 c = simp (ne-eqb _ _ (c .if1 .left))
 

@@ -1,15 +1,10 @@
-use borrow.Author.Needs.{needs}
 use borrow.Author.Tests.{eq-eqb, ne-eqb}
 use Rattle.lines.proofs.number.follows.Statement.{statement}
 use Rattle.lines.proofs.number.follows.Tie as tie
-use Rattle.lines.proofs.number.follows.Reads as reads
-use Rattle.lines.proofs.number.follows.Lts as lts
 
--- src/number.rt:34:1
 returns : tie.Need-returns
 returns c = simp (eq-eqb _ _ (c .if1 .taken))
 
--- src/number.rt:34:1
 returns-2 : tie.Need-returns-2
 returns-2 c = simp (ne-eqb _ _ (c .if1 .left))
 

@@ -1,77 +1,57 @@
+use native.Mathlib.Omega.{arith}
 use borrow.Author.Needs.{needs}
 use Rattle.lines.proofs.NumberLaws.{number-test-at}
-use native.Mathlib.Omega.{arith}
 use Rattle.lines.proofs.number.is_number.Statement.{statement}
 use Rattle.lines.proofs.number.is_number.Tie as tie
-use Rattle.lines.proofs.number.is_number.Reads as reads
-use Rattle.lines.proofs.number.is_number.Lts as lts
-use Rattle.lines.proofs.number.follows.Reads as follows-reads
 
--- src/number.rt:49:13
 shared-slice-read-a : tie.Need-shared-slice-read-a
 shared-slice-read-a c = search needs
 
--- src/number.rt:50:18
 add-b : tie.Need-add-b
 add-b c = search needs
 
--- src/number.rt:50:13
 shared-slice-read-b : tie.Need-shared-slice-read-b
 shared-slice-read-b c = search needs
 
--- src/number.rt:51:18
 add-c : tie.Need-add-c
 add-c c = search needs
 
--- src/number.rt:51:13
 shared-slice-read-c : tie.Need-shared-slice-read-c
 shared-slice-read-c c = search needs
 
--- src/number.rt:52:18
 add-d : tie.Need-add-d
 add-d c = search needs
 
--- src/number.rt:52:13
 shared-slice-read-d : tie.Need-shared-slice-read-d
 shared-slice-read-d c = search needs
 
--- src/number.rt:53:18
 add-e : tie.Need-add-e
 add-e c = search needs
 
--- src/number.rt:53:13
 shared-slice-read-e : tie.Need-shared-slice-read-e
 shared-slice-read-e c = search needs
 
--- src/number.rt:54:18
 add-f : tie.Need-add-f
 add-f c = search needs
 
--- src/number.rt:54:13
 shared-slice-read-f : tie.Need-shared-slice-read-f
 shared-slice-read-f c = search needs
 
--- src/number.rt:55:5
 follows-requires : tie.Need-follows-requires
 follows-requires c κs = search needs
 
--- src/number.rt:56:11
 follows-requires-2 : tie.Need-follows-requires-2
 follows-requires-2 c κs = search needs
 
--- src/number.rt:57:11
 follows-requires-3 : tie.Need-follows-requires-3
 follows-requires-3 c κs = search needs
 
--- src/number.rt:58:11
 follows-requires-4 : tie.Need-follows-requires-4
 follows-requires-4 c κs = search needs
 
--- src/number.rt:59:11
 follows-requires-5 : tie.Need-follows-requires-5
 follows-requires-5 c κs = search needs
 
--- src/number.rt:45:1
 returns : tie.Need-returns
 returns c =
     let s = c .before .before .before .before .before .before .before .before .before .before .before .before in

@@ -1,61 +1,49 @@
+use mathlib.Core.Path.{_≡_}
+use Prim.Native.Nat.{_≤_, _-_, zero-le}
+use native.Mathlib.Omega.{arith}
 use borrow.Author.Needs.{needs}
 use Rattle.lists.proofs.Records.{Mapped, mapped-none, mapped-more}
-use native.Mathlib.Omega.{arith}
-use Prim.Native.Nat.{_≤_, _-_, zero-le}
-use mathlib.Core.Path.{_≡_}
-use Rattle.lines.proofs.LineLaws.{line-length}
 use Rattle.lines.specs.Line.{writeLine}
+use Rattle.lines.proofs.LineLaws.{line-length}
 use Rattle.lines.proofs.text.write_lines.Statement.{statement}
 use Rattle.lines.proofs.text.write_lines.Tie as tie
-use Rattle.lines.proofs.text.write_lines.Reads as reads
-use Rattle.lines.proofs.text.write_lines.Lts as lts
-use Rattle.lines.proofs.line.write_line.Reads as write-line-reads
 
 abbrev Inv-loop : tie.InvT-loop
-Inv-loop table text₀ lines i₀ text i = (i ≤ lines) × Mapped writeLine 3 19 table text₀ text i
+Inv-loop table text₀ rows i₀ text i = (i ≤ rows) × Mapped writeLine 3 19 table text₀ text i
 
 abbrev μ-loop : tie.MeasureT-loop
-μ-loop table text₀ lines i₀ text i = lines - i
+μ-loop table text₀ rows i₀ text i = rows - i
 
--- src/text.rt:56:5
 loop-holds : tie.Need-loop-holds Inv-loop μ-loop
 loop-holds c = (zero-le, mapped-none writeLine 3 19 _ _)
 
--- src/text.rt:57:27
 mul-write-line : tie.Need-mul-write-line Inv-loop μ-loop
 mul-write-line c = search needs
 
--- src/text.rt:57:40
 mul-write-line-2 : tie.Need-mul-write-line-2 Inv-loop μ-loop
 mul-write-line-2 c = search needs
 
--- src/text.rt:57:9
 write-line-requires : tie.Need-write-line-requires Inv-loop μ-loop
 write-line-requires c κs = search needs
 
--- src/text.rt:56:9
 add-i : tie.Need-add-i Inv-loop μ-loop
 add-i c = search needs
 
--- src/text.rt:56:5
 loop-less : tie.Need-loop-less Inv-loop μ-loop
 loop-less c = search needs
 
--- src/text.rt:56:5
 loop-again : tie.Need-loop-again Inv-loop μ-loop
 loop-again c =
     let l = c .before .before .before .before .before in
     let a = l .before .before .before .args in
     (omega arith, mapped-more writeLine 3 19 (a .table .now) (a .text .now) line-length (l .loop .text) _ (l .loop .i) (l .loop .inv .1) (omega arith) (c .before .before .write-line .ensures))
 
--- src/text.rt:51:1
 same-length : tie.Need-same-length Inv-loop μ-loop
 same-length c = c .before .loop .inv .1 .long
 
--- src/text.rt:51:1
 returns : tie.Need-returns Inv-loop μ-loop
 returns c =
-    let e : c .before .loop .i ≡ c .before .before .before .before .args .lines = omega arith in
+    let e : c .before .loop .i ≡ c .before .before .before .before .args .rows = omega arith in
     rw (← e) (c .before .loop .inv .1 .front)
 
 pub write-lines-spec : {M : Type 1} → statement M

@@ -1,62 +1,51 @@
-use borrow.Author.Needs.{needs}
-use Rattle.lists.proofs.Records.{all-turn, all-fails}
-use Rattle.lists.specs.Records.{allRecords}
-use borrow.Author.Tests.{not-true, not-false}
-use native.Mathlib.Omega.{arith}
-use Prim.Native.Nat.{_≤_, _-_, zero-le}
 use mathlib.Core.Bool.{true}
 use mathlib.Core.Path.{_≡_, refl, sym, _∙_}
+use Prim.Native.Nat.{_≤_, _-_, zero-le}
+use native.Mathlib.Omega.{arith}
+use borrow.Author.Needs.{needs}
+use borrow.Author.Tests.{not-true, not-false}
+use Rattle.lists.specs.Records.{allRecords}
+use Rattle.lists.proofs.Records.{all-turn, all-fails}
 use Rattle.lines.specs.Line.{isRow}
-use Rattle.lines.proofs.text.are_rows.Statement.{statement}
-use Rattle.lines.proofs.text.are_rows.Tie as tie
-use Rattle.lines.proofs.text.are_rows.Reads as reads
-use Rattle.lines.proofs.text.are_rows.Lts as lts
-use Rattle.lines.proofs.line.is_row.Reads as is-row-reads
+use Rattle.lines.proofs.checking.are_rows.Statement.{statement}
+use Rattle.lines.proofs.checking.are_rows.Tie as tie
 
 abbrev Inv-loop : tie.InvT-loop
-Inv-loop table lines i₀ i = (i ≤ lines) × (allRecords isRow 3 i table ≡ true)
+Inv-loop table rows i₀ i = (i ≤ rows) × (allRecords isRow 3 i table ≡ true)
 
 abbrev μ-loop : tie.MeasureT-loop
-μ-loop table lines i₀ i = lines - i
+μ-loop table rows i₀ i = rows - i
 
--- src/text.rt:31:5
 loop-holds : tie.Need-loop-holds Inv-loop μ-loop
 unfolding allRecords
 loop-holds c = (zero-le, refl)
 
--- src/text.rt:32:27
 mul-is-row : tie.Need-mul-is-row Inv-loop μ-loop
 mul-is-row c = search needs
 
--- src/text.rt:32:13
 is-row-requires : tie.Need-is-row-requires Inv-loop μ-loop
 is-row-requires c κs = search needs
 
--- src/text.rt:33:13
 returns : tie.Need-returns Inv-loop μ-loop
 returns c =
     let l = c .before .before .before in
     let a = l .before .before .args in
-    sym (all-fails isRow 3 (l .loop .i) (a .lines) (a .table .now) (omega arith) (sym (c .before .is-row .ensures) ∙ not-true _ (c .if1 .taken)))
+    sym (all-fails isRow 3 (l .loop .i) (a .rows) (a .table .now) (omega arith) (sym (c .before .is-row .ensures) ∙ not-true _ (c .if1 .taken)))
 
--- src/text.rt:31:9
 add-i : tie.Need-add-i Inv-loop μ-loop
 add-i c = search needs
 
--- src/text.rt:31:5
 loop-less : tie.Need-loop-less Inv-loop μ-loop
 loop-less c = search needs
 
--- src/text.rt:31:5
 loop-again : tie.Need-loop-again Inv-loop μ-loop
 loop-again c =
     let l = c .before .before .before in
     (omega arith, all-turn isRow 3 (l .loop .i) (l .before .before .args .table .now) (l .loop .inv .1) (sym (c .before .is-row .ensures) ∙ not-false _ (c .if1 .left)))
 
--- src/text.rt:27:1
 returns-2 : tie.Need-returns-2 Inv-loop μ-loop
 returns-2 c =
-    let e : c .before .loop .i ≡ c .before .before .before .args .lines = omega arith in
+    let e : c .before .loop .i ≡ c .before .before .before .args .rows = omega arith in
     sym (rw (← e) (c .before .loop .inv .1))
 
 pub are-rows-spec : {M : Type 1} → statement M

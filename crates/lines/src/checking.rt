@@ -1,0 +1,34 @@
+// Whether all lines of a text, or all rows of a table, are right.
+ghost use mathlib.Core.Path.{_≡_};
+ghost use Prim.Native.Nat.{_*_, _≤_};
+ghost use lib.ListN.{length};
+ghost use Rattle.lists.specs.Records.{allRecords};
+ghost use Rattle.lines.specs.Line.{isRow, isLine};
+use crate::line::is_line;
+use crate::line::is_row;
+
+// Whether each of the first `lines` lines is well written.
+pub fn are_lines(text: &[u8], lines: usize) -> bool
+    requires { ⌜ 19 * lines ≤ length (now text) ⌝ }
+    ensures { λ r. ⌜ r ≡ allRecords isLine 19 lines (now (text .entry)) ⌝ }
+{
+    for i in 0..lines {
+        if !is_line(text, 19 * i) {
+            return false;
+        }
+    }
+    true
+}
+
+// Whether each of the first `rows` rows can be written.
+pub fn are_rows(table: &[u32], rows: usize) -> bool
+    requires { ⌜ 3 * rows ≤ length (now table) ⌝ }
+    ensures { λ r. ⌜ r ≡ allRecords isRow 3 rows (now (table .entry)) ⌝ }
+{
+    for i in 0..rows {
+        if !is_row(table, 3 * i) {
+            return false;
+        }
+    }
+    true
+}
