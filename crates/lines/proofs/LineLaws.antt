@@ -13,9 +13,9 @@ use Rattle.lists.specs.Same.{same}
 use Rattle.lists.proofs.Tests.{both, left-of, right-of}
 use Rattle.lists.proofs.Same.{same-refl, same-is, same-append}
 use Rattle.lists.proofs.Stores.{sets-append}
-use Rattle.lines.specs.Number.{writeNumber, readNumber}
+use Rattle.lines.specs.Number.{writeNumber, readNumber, isNumber}
 use Rattle.lines.specs.Line.{isRow, isLine, writeLine, readLine}
-use Rattle.lines.proofs.NumberLaws.{isNumber, number-length, read-back}
+use Rattle.lines.proofs.NumberLaws.{number-length, read-back}
 
 -- ---- lengths
 

@@ -14,7 +14,7 @@ use Rattle.lists.specs.First.{first}
 use Rattle.lists.specs.Same.{same}
 use Rattle.lists.proofs.Tests.{same-test, both, left-of, right-of}
 use Rattle.lists.proofs.Same.{same-refl, same-is}
-use Rattle.lines.specs.Number.{digit, digits, writeNumber, columnValue, readNumber}
+use Rattle.lines.specs.Number.{digit, digits, writeNumber, columnValue, readNumber, isNumber}
 
 -- ---- the columns of a number
 
@@ -254,10 +254,6 @@ first-six (a ∷ b ∷ c ∷ []) h = absurd (omega arith)
 first-six (a ∷ b ∷ []) h = absurd (omega arith)
 first-six (a ∷ []) h = absurd (omega arith)
 first-six [] h = absurd (omega arith)
-
--- whether the first six bytes are the writing of a number up to 999,999
-abbrev pub isNumber : List ℕ → Bool
-isNumber t = leb (readNumber t) 999999 && same (take 6 t) (writeNumber (readNumber t))
 
 number-test : (t : List ℕ) → 6 ≤ length t → passes (getD t 0 0) (getD t 1 0) (getD t 2 0) (getD t 3 0) (getD t 4 0) (getD t 5 0) ≡ isNumber t
 unfolding readNumber

@@ -1,9 +1,11 @@
 -- 01, Lines, 1: how a number stands in its six columns, and what number six columns show.
 use Prim.Native.Nat.{ℕ, zero, suc, _+_, _-_, _*_, _/_, _%_}
+use mathlib.Core.Bool.{Bool, _&&_}
 use mathlib.Core.List.{List, [], _∷_, _++_}
-use lib.ListN.{length, getD, replicate}
-use lib.Dec.{ltb}
+use lib.ListN.{length, take, getD, replicate}
+use lib.Dec.{leb, ltb}
 use Rattle.lists.specs.First.{first}
+use Rattle.lists.specs.Same.{same}
 
 -- the byte of a digit
 abbrev pub digit : ℕ → ℕ
@@ -27,3 +29,7 @@ unfoldable pub readNumber : List ℕ → ℕ
 readNumber t =
     ((((columnValue (getD t 0 0) * 10 + columnValue (getD t 1 0)) * 10 + columnValue (getD t 2 0)) * 10
     + columnValue (getD t 3 0)) * 10 + columnValue (getD t 4 0)) * 10 + columnValue (getD t 5 0)
+
+-- whether the first six bytes are the writing of a number up to 999,999
+abbrev pub isNumber : List ℕ → Bool
+isNumber t = leb (readNumber t) 999999 && same (take 6 t) (writeNumber (readNumber t))

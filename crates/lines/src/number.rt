@@ -3,11 +3,10 @@ ghost use mathlib.Core.Path.{_≡_};
 ghost use mathlib.Core.Bool.{_&&_, _||_};
 ghost use Prim.Native.Nat.{_+_, _%_, _≤_};
 ghost use lib.Dec.{eqb, leb};
-ghost use lib.ListN.{length, take, drop};
+ghost use lib.ListN.{length, drop};
 ghost use lib.Seq.{sets};
 ghost use Rattle.lists.specs.First.{first};
-ghost use Rattle.lists.specs.Same.{same};
-ghost use Rattle.lines.specs.Number.{digit, columnValue, readNumber, writeNumber};
+ghost use Rattle.lines.specs.Number.{digit, columnValue, readNumber, writeNumber, isNumber};
 
 // What a column adds to the number.
 fn column_value(byte: u8) -> u32
@@ -42,10 +41,10 @@ fn follows(before: u8, byte: u8) -> bool
     }
 }
 
-// Whether the six columns from `at` are the writing of a number up to 999,999. This asks no division, unlike writing it to compare.
+// Whether the six columns from `at` are a number. Looking at each column beside the one before it spares the divisions of writing the number to compare.
 pub fn is_number(text: &[u8], at: usize) -> bool
     requires { ⌜ at + 6 ≤ length (now text) ⌝ }
-    ensures { λ r. ⌜ r ≡ (leb (readNumber (drop at (now (text .entry)))) 999999 && same (take 6 (drop at (now (text .entry)))) (writeNumber (readNumber (drop at (now (text .entry)))))) ⌝ }
+    ensures { λ r. ⌜ r ≡ isNumber (drop at (now (text .entry))) ⌝ }
 {
     let a = text[at];
     let b = text[at + 1];
