@@ -13,6 +13,7 @@ use Rattle.lists.specs.First.{first}
 use Rattle.lists.specs.Records.{mapRecords, allRecords}
 use Rattle.lists.proofs.Tests.{left-of, right-of}
 use Rattle.lists.proofs.Records.{map-length, map-passes, map-back}
+use Rattle.lines.specs.Number.{readNumber}
 use Rattle.lines.specs.Line.{isRow, isLine, writeLine, readLine}
 use Rattle.lines.specs.Text.{isPartial, isText, isTable, readText, writeTable}
 use Rattle.lines.specs.Refusal.{refused, gives, leaving}
@@ -107,9 +108,10 @@ module _ (size width : ℕ) (test other : List ℕ → Bool) (make unmake : List
 -- ---- the theorems
 
 pub line-is-writing : LineIsWriting
+unfolding readLine
 line-is-writing t = (
-  λ g. (readLine t ++ [], line-row t [] g, sym (line-back t [] g)),
-  λ x. subst (λ l. isLine l ≡ true) (ap (λ (l : List ℕ). l ++ drop 19 t) (sym (x .2)) ∙ take-append-drop 19 t) (row-line (x .0) (drop 19 t) (x .1)),
+  λ g. (readNumber t, readNumber (drop 6 t), readNumber (drop 12 t), line-row t [] g, sym (line-back t [] g)),
+  λ x. subst (λ l. isLine l ≡ true) (ap (λ (l : List ℕ). l ++ drop 19 t) (sym (x .4)) ∙ take-append-drop 19 t) (row-line _ (drop 19 t) (x .3)),
 )
 
 pub write-after-read : WriteAfterRead

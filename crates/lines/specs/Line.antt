@@ -19,7 +19,7 @@ writeLine t = writeNumber (getD t 0 0) ++ writeNumber (getD t 1 0) ++ writeNumbe
 unfoldable pub readLine : List ℕ → List ℕ
 readLine t = readNumber t ∷ readNumber (drop 6 t) ∷ readNumber (drop 12 t) ∷ []
 
--- Whether the first 19 bytes of a text are a line: the writing of three numbers up to 999,999.
--- If they are, then of those that they show, so that no others need be tried (`LineIsWriting` in Theorems.antt).
+-- Whether the first 19 bytes of a text are a line: the writing of three numbers up to 999,999. It is enough to try the three that
+-- they show (`LineIsWriting` in Theorems.antt).
 unfoldable pub isLine : List ℕ → Bool
 isLine t = isRow (readLine t) && same (take 19 t) (writeLine (readLine t))

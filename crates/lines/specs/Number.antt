@@ -20,7 +20,7 @@ digits (suc k) n = first (ltb n 10) (digit n ∷ []) (digits k (n / 10) ++ (digi
 unfoldable pub writeNumber : ℕ → List ℕ
 writeNumber n = replicate (6 - length (digits 6 n)) 32 ++ digits 6 n
 
--- what a column adds: a digit its value, a blank nothing
+-- What a column adds: a digit its value, a blank nothing. What another byte adds does not matter, since it stands in no writing.
 abbrev pub columnValue : ℕ → ℕ
 columnValue b = b - 48
 
@@ -30,6 +30,6 @@ readNumber t =
     ((((columnValue (getD t 0 0) * 10 + columnValue (getD t 1 0)) * 10 + columnValue (getD t 2 0)) * 10
     + columnValue (getD t 3 0)) * 10 + columnValue (getD t 4 0)) * 10 + columnValue (getD t 5 0)
 
--- whether the first six bytes are the writing of a number up to 999,999
+-- whether the first six bytes are the writing of a number up to 999,999, which can only be the one that they show
 abbrev pub isNumber : List ℕ → Bool
 isNumber t = leb (readNumber t) 999999 && same (take 6 t) (writeNumber (readNumber t))

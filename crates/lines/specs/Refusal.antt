@@ -4,12 +4,17 @@ use mathlib.Core.List.{List, [], _∷_}
 use Rattle.lines.specs.declared.Answer.{Answer}
 use Rattle.lines.specs.declared.Answer.the-variants.{Lines, Refused}
 
--- A refusal is its number and a table; a success is the values that 01 names for the call.
+-- A refusal is its number and a table. A success is the call's numbers: those that 01 names, such as D and N; otherwise how many
+-- lines were found, read or written, or outputs given.
 pub data Result : Type 0 where
   refused : (number table : ℕ) → Result
   gives : List ℕ → Result
 
--- 01's numbers for the answer of the calls on lines: a success gives the number of lines.
+-- the table that is named where the fault lies in none, as in a text or table that is read or written by itself
+abbrev pub noTable : ℕ
+noTable = 0
+
+-- the answer of the calls on lines: a success gives the number of lines
 abbrev pub paperValues : Answer → Result
 paperValues (Lines n) = gives (n ∷ [])
 paperValues (Refused r) = refused (r .number) (r .table)

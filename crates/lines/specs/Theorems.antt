@@ -9,12 +9,13 @@ use lib.ListN.{length, take}
 use Rattle.lists.specs.First.{first}
 use Rattle.lines.specs.Line.{isRow, isLine, writeLine}
 use Rattle.lines.specs.Text.{isText, isTable, readText, writeTable}
-use Rattle.lines.specs.Refusal.{refused, gives, Outcome, leaving}
+use Rattle.lines.specs.Refusal.{refused, gives, noTable, Outcome, leaving}
 use Rattle.lines.specs.Calls.{over, reading, writing}
 
--- 19 bytes are a line exactly if they are the writing of some three numbers up to 999,999.
+-- The first 19 bytes of a text are a line exactly if they are the writing of some three numbers up to 999,999.
 abbrev pub LineIsWriting : Type 0
-LineIsWriting = (t : List ℕ) → (isLine t ≡ true) ↔ ((row : List ℕ) × (isRow row ≡ true) × (take 19 t ≡ writeLine row))
+LineIsWriting =
+    (t : List ℕ) → (isLine t ≡ true) ↔ ((a b c : ℕ) × (isRow (a ∷ b ∷ c ∷ []) ≡ true) × (take 19 t ≡ writeLine (a ∷ b ∷ c ∷ [])))
 
 -- A text is well written exactly if it is the writing of some table of numbers up to 999,999, three a line, at least one line.
 abbrev pub TextIsWriting : Type 0
@@ -28,9 +29,9 @@ WriteAfterRead = (t : List ℕ) → isText t ≡ true → (writeTable (readText 
 abbrev pub ReadAfterWrite : Type 0
 ReadAfterWrite = (t : List ℕ) → isTable t ≡ true → (readText (writeTable t) ≡ t) × (isText (writeTable t) ≡ true)
 
--- The same of the calls. What a second call gives that is handed what the first has left, where it gives the first one's source back: into `out`, if that has room.
+-- The same of the calls. What the second call gives: the first one's source in `out`, or refusal 2 if `out` is too short.
 abbrev pub givenBack : ℕ → (source out : List ℕ) → Outcome
-givenBack n source out = first (ltb (length out) (length source)) (leaving (refused 2 0) out) (leaving (gives (n ∷ [])) (over source out))
+givenBack n source out = first (ltb (length out) (length source)) (leaving (refused 2 noTable) out) (leaving (gives (n ∷ [])) (over source out))
 
 -- The n lines that a successful `read` has left in the table are written back as the text.
 abbrev pub WriteCallAfterRead : Type 0

@@ -52,7 +52,7 @@ pub fn validate(text: &[u8]) -> Answer
     Answer::Lines(lines)
 }
 
-// Tests a whole table so.
+// Tests a whole table: refusal 1, then 3 for a number above 999,999.
 fn validate_table(table: &[u32]) -> Answer
     ensures { λ r. ⌜ paperValues r ≡ validation 3 isRow (now (table .entry)) ⌝ }
 {
@@ -69,7 +69,7 @@ fn validate_table(table: &[u32]) -> Answer
     Answer::Lines(rows)
 }
 
-// Reads a text into a table.
+// Reads a text into a table. Refusals 1, 3, then 2.
 pub fn read(text: &[u8], table: &mut [u32]) -> Answer
     ensures { λ r. ⌜ leaving (paperValues r) (now (table .exit)) ≡ reading (now (text .entry)) (now (table .entry)) ⌝ }
 {
@@ -85,7 +85,7 @@ pub fn read(text: &[u8], table: &mut [u32]) -> Answer
     }
 }
 
-// Writes a table as a text.
+// Writes a table as a text. Refusals 1, 3, then 2.
 pub fn write(table: &[u32], text: &mut [u8]) -> Answer
     ensures { λ r. ⌜ leaving (paperValues r) (now (text .exit)) ≡ writing (now (table .entry)) (now (text .entry)) ⌝ }
 {
