@@ -31,6 +31,10 @@ module _ {A : Type 0} (total d₀ : List A) where
       → Appended total rest′ d₀ (set d at a) at′
   appended-one rest rest′ d at at′ a p e h q = rw q (appended-next rest′ d at a h (rw e at p))
 
+  -- what is to come, said otherwise
+  pub appended-rest : (rest rest′ d : List A) (at : ℕ) → Appended total rest d₀ d at → rest ≡ rest′ → Appended total rest′ d₀ d at
+  appended-rest rest rest′ d at p e = subst (λ r. Appended total r d₀ d at) e p
+
   pub appended-three : (rest rest′ d d′ : List A) (at at′ : ℕ) (a b c : A) → Appended total rest d₀ d at → rest ≡ a ∷ b ∷ c ∷ rest′ → at + 2 < length d₀
       → at′ ≡ at + 3 → d′ ≡ set (set (set d at a) (at + 1) b) (at + 2) c → Appended total rest′ d₀ d′ at′
   appended-three rest rest′ d d′ at at′ a b c p e h q w =

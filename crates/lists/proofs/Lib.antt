@@ -6,3 +6,4 @@ pub mod Records
 pub mod Each
 pub mod Written
 pub mod Appended
+pub mod Maps

@@ -1,0 +1,79 @@
+-- The loops over depths: filling a buffer with them, and the largest of the outputs. Assumes nothing.
+use mathlib.Core.Path.{_≡_, sym, ap, ap₂, _∙_}
+use mathlib.Core.List.{List, _∷_, map}
+use Prim.Native.Nat.{ℕ, _+_, _*_, _≤_, _<_, max}
+use native.Mathlib.Omega.{arith}
+use lib.ListN.{length, take, drop, getD, set, replicate, length-replicate}
+use Rattle.lists.proofs.Maps.{take-read}
+use Rattle.lines.specs.Calls.{over}
+use Rattle.circuit.specs.Circuit.{maxGates, firstGate}
+use Rattle.circuit.specs.Table.{inputs, gates, outputs, refs, gatesFrom, closingsFrom, lineAt, gateLines, decode}
+use Rattle.circuit.specs.WellFormed.{WellFormed}
+use Rattle.circuit.specs.Fold.{gateValue}
+use Rattle.circuit.specs.Depth.{depthOp, startDepths, depths, depth, largest, circuitDepth}
+use Rattle.circuit.proofs.TableLaws.{gate-step, gates-length, output-step, outputs-length, refs-decode}
+use Rattle.circuit.proofs.RefusalLaws.{left-below, right-below, output-below}
+use Rattle.circuit.proofs.BoundLaws.{depth-le, depths-length}
+use Rattle.circuit.proofs.LoopLaws.{value-read, largest-more, largest-end}
+use Rattle.circuit.proofs.BufferLaws.{FilledOver, filled-over-none, filled-over-more, filled-over-read, filled-over-all, over-take, over-over}
+
+-- the depths of the first i gates are there, behind those of the constants and inputs
+abbrev pub DepthsTo : (t d₀ d : List ℕ) (i : ℕ) → Type 0
+DepthsTo t d₀ d i = FilledOver (gateValue depthOp 0) (gateLines t) (startDepths (inputs t)) (firstGate (inputs t)) d₀ d i
+
+module _ (t d₀ : List ℕ) where
+  pub depths-none : take (firstGate (inputs t)) d₀ ≡ startDepths (inputs t) → DepthsTo t d₀ d₀ 0
+  depths-none e = filled-over-none (gateValue depthOp 0) (gateLines t) (startDepths (inputs t)) (firstGate (inputs t)) d₀ e
+
+  module _ (w : WellFormed t) (fits : refs t ≤ length d₀) (d : List ℕ) (i : ℕ) (f : DepthsTo t d₀ d i) where
+    pub depth-limit : i ≤ gates t → (k : ℕ) → k < firstGate (inputs t) + i → getD d k 0 ≤ maxGates
+    unfolding depths
+    depth-limit h k l =
+        omega (
+          arith,
+          filled-over-read (gateValue depthOp 0) (gateLines t) (startDepths (inputs t)) (firstGate (inputs t)) d₀ d i f (omega arith) k 0 l,
+          depth-le (decode t) k,
+          gates-length t,
+          w .sized .gates-limit,
+        )
+
+    pub depths-more : i < gates t → (v kind l r : ℕ) → kind ≡ getD t (gatesFrom t + 3 * i) 0 → l ≡ getD t (gatesFrom t + 3 * i + 1) 0
+        → r ≡ getD t (gatesFrom t + 3 * i + 2) 0 → v ≡ depthOp kind (getD d l 0) (getD d r 0)
+        → DepthsTo t d₀ (set d (firstGate (inputs t) + i) v) (i + 1)
+    depths-more h v kind l r k x y e =
+        let g = lineAt t (gatesFrom t + 3 * i) in
+        filled-over-more (gateValue depthOp 0) (gateLines t) (startDepths (inputs t)) (firstGate (inputs t)) d₀ d i f v g (gate-step t i h) (omega arith)
+        (e ∙ ap (λ n. depthOp n (getD d l 0) (getD d r 0)) k ∙ ap₂ (λ a b. depthOp (g .kind) (getD d a 0) (getD d b 0)) x y
+        ∙ value-read depthOp 0 g (firstGate (inputs t) + i) d (left-below t w i h) (right-below t w i h))
+
+    pub depths-all : i ≤ gates t → gates t ≤ i → d ≡ over (depths (decode t)) d₀
+    unfolding depths
+    depths-all h k =
+        filled-over-all (gateValue depthOp 0) (gateLines t) (startDepths (inputs t)) (firstGate (inputs t)) d₀ d i f (omega arith) (omega (arith, gates-length t))
+
+-- zeros first, then the depths over them
+pub depths-over : (t d₀ d d′ : List ℕ) → d ≡ over (replicate (firstGate (inputs t)) 0) d₀ → d′ ≡ over (depths (decode t)) d → d′ ≡ over (depths (decode t)) d₀
+depths-over t d₀ d d′ e f =
+    f ∙ ap (over (depths (decode t))) e
+    ∙ over-over (depths (decode t)) (replicate (firstGate (inputs t)) 0) d₀
+    (omega (arith, depths-length (decode t), refs-decode t, length-replicate {A = ℕ} (firstGate (inputs t)) 0))
+
+-- what a reader of the filled buffer knows
+pub depths-front : (t d₀ d : List ℕ) → d ≡ over (depths (decode t)) d₀ → take (refs t) d ≡ depths (decode t)
+depths-front t d₀ d e = ap (take (refs t)) e ∙ over-take (depths (decode t)) d₀ (refs t) (depths-length (decode t) ∙ refs-decode t)
+
+-- one output more in the largest depth
+module _ (t d : List ℕ) (w : WellFormed t) (e : take (refs t) d ≡ depths (decode t)) where
+  pub deepest-more : (i x : ℕ) → max x (largest (map (depth (decode t)) (drop i (decode t .outputs)))) ≡ largest (map (depth (decode t)) (decode t .outputs))
+      → i < outputs t → (o x′ : ℕ) → o ≡ getD t (closingsFrom t + 3 * i + 1) 0 → x′ ≡ max x (getD d o 0)
+      → max x′ (largest (map (depth (decode t)) (drop (i + 1) (decode t .outputs)))) ≡ largest (map (depth (decode t)) (decode t .outputs))
+  deepest-more i x inv h o x′ p q =
+      let os = decode t .outputs in
+      let r : x′ ≡ max x (depth (decode t) o) = q ∙ ap (max x) (take-read (refs t) d (depths (decode t)) o 0 e (omega (arith, output-below t w i h))) in
+      ap (λ y. max y (largest (map (depth (decode t)) (drop (i + 1) os)))) r
+      ∙ largest-more (depth (decode t)) os i x inv o (output-step t i h ∙ ap (λ y. y ∷ drop (i + 1) os) (sym p))
+
+  pub deepest-all : (i x : ℕ) → max x (largest (map (depth (decode t)) (drop i (decode t .outputs)))) ≡ largest (map (depth (decode t)) (decode t .outputs))
+      → outputs t ≤ i → x ≡ circuitDepth (decode t)
+  unfolding circuitDepth
+  deepest-all i x inv h = largest-end (depth (decode t)) (decode t .outputs) i x inv (omega (arith, outputs-length t))

@@ -1,0 +1,75 @@
+-- Live and above are what 01's paths say. Assumes nothing.
+use mathlib.Core.Path.{_≡_, refl, sym, _∙_}
+use mathlib.Core.Bool.{Bool, true, false, _&&_}
+use mathlib.Core.List.{List, [], _∷_}
+use Prim.Native.Nat.{ℕ, suc, _+_, _-_, _<_}
+use native.Mathlib.Nat.{suc-ne-zero}
+use native.Mathlib.Omega.{arith}
+use lib.Dec.{leb, ltb}
+use lib.ListN.{length, getD}
+use borrow.Author.Tests.{le-leb, leb-true, lt-ltb, ltb-true}
+use Rattle.lists.specs.First.{first}
+use Rattle.lists.proofs.Tests.{both, left-of, right-of}
+use Rattle.circuit.specs.Circuit.{Circuit, noGate, firstGate, references, gateAt}
+use Rattle.circuit.specs.Table.{decode}
+use Rattle.circuit.specs.Path.{isAmong, isGate, isOperand, isPath, andsOn}
+use Rattle.circuit.specs.ReverseDepth.{reverseDepth, isLive, above}
+use Rattle.circuit.specs.Theorems.{LiveIsReached, AboveIsLargest}
+use Rattle.circuit.proofs.EachLaws.{each-at, each-of}
+use Rattle.circuit.proofs.ValidLaws.{Valid, valid-decode}
+use Rattle.circuit.proofs.ReverseDepthLaws.{ands, plus-ands, handed-lt, handed-down, marked, reached, reverse-at, live-output}
+
+module _ (c : Circuit) (ok : Valid c) where
+  -- no path has more ANDs than `above` says, and where there is one the reference is live
+  pub path-below : (v : ℕ) (path : List ℕ) → isPath c v path ≡ true → andsOn c path < reverseDepth c v
+  unfolding isPath andsOn
+  path-below v [] e = ltb-true 0 (reverseDepth c v) (live-output c ok v e)
+  path-below v (w ∷ ws) e =
+      let n = firstGate (c .inputs) in
+      let gate = left-of (isGate c w) (isOperand v (gateAt c w) && isPath c w ws) e in
+      let rest = right-of (isGate c w) (isOperand v (gateAt c w) && isPath c w ws) e in
+      let lo = leb-true n w (left-of (leb n w) (ltb w (references c)) gate) in
+      let hi = ltb-true w (references c) (right-of (leb n w) (ltb w (references c)) gate) in
+      let ih = path-below w ws (right-of (isOperand v (gateAt c w)) (isPath c w ws) rest) in
+      let s : n + (w - n) ≡ w = omega arith in
+      let down = each-at _ n (c .gates) (handed-down c ok) (w - n) (omega arith) v (left-of (isOperand v (gateAt c w)) (isPath c w ws) rest) in
+      omega (arith, rw s at down, handed-lt (gateAt c w .kind) (reverseDepth c w) (andsOn c ws) ih, plus-ands (gateAt c w .kind) (andsOn c ws))
+
+  -- a path from v with x ANDs
+  abbrev Reaches : ℕ → ℕ → Type 0
+  Reaches v x = (path : List ℕ) × (isPath c v path ≡ true) × (andsOn c path ≡ x)
+
+  goes-up : (i : ℕ) → i < length (c .gates) → (v x : ℕ) → isOperand v (getD (c .gates) i noGate) ≡ true → Reaches (firstGate (c .inputs) + i) x
+      → Reaches v (x + ands (getD (c .gates) i noGate .kind))
+  unfolding isPath andsOn
+  goes-up i h v x e (ws, p, q) =
+      let n = firstGate (c .inputs) in
+      let s : n + i - n ≡ i = omega arith in
+      let gate : isGate c (n + i) ≡ true = both {a = leb n (n + i)} {b = ltb (n + i) (references c)} (le-leb n (n + i) (omega arith)) (lt-ltb (n + i) (references c) (omega arith)) in
+      ((n + i) ∷ ws, rw (gate, s, e) p, rw (s, q) (plus-ands (getD (c .gates) i noGate .kind) x))
+
+  pub path-of : (v x : ℕ) → reverseDepth c v ≡ suc x → Reaches v x
+  unfolding isPath andsOn marked
+  path-of v x e =
+      reached Reaches (firstGate (c .inputs)) (c .gates) (marked (c .outputs))
+      (each-of _ (firstGate (c .inputs)) (c .gates) goes-up)
+      (λ r y q. ended r y (isAmong r (c .outputs)) refl q) v x (sym (reverse-at c ok v) ∙ e)
+    where
+      ended : (r y : ℕ) (b : Bool) → isAmong r (c .outputs) ≡ b → first b 1 0 ≡ suc y → Reaches r y
+      ended r y true f q = ([], f, omega arith)
+      ended r y false f q = absurd (suc-ne-zero y (sym q))
+
+  path-live : (v : ℕ) → isLive c v ≡ true → Reaches v (above c v)
+  path-live v e = let h = ltb-true 0 (reverseDepth c v) e in path-of v (above c v) (omega arith)
+
+pub live-is-reached : LiveIsReached
+live-is-reached t w v =
+    let c = decode t in
+    let ok = valid-decode t w in
+    (λ e. let p = path-live c ok v e in (p .0, p .1), λ p. lt-ltb 0 (reverseDepth c v) (omega (arith, path-below c ok v (p .0) (p .1))))
+
+pub above-is-largest : AboveIsLargest
+above-is-largest t w v e =
+    let c = decode t in
+    let ok = valid-decode t w in
+    (path-live c ok v e, λ path p. omega (arith, path-below c ok v path p))

@@ -1,0 +1,176 @@
+-- Trimming changes neither what a circuit computes nor its pair. Assumes nothing.
+use mathlib.Core.Path.{_≡_, refl, sym, ap, ap₂, _∙_}
+use mathlib.Core.Bool.{Bool, true, false, true≢false, and-false}
+use mathlib.Core.List.{List, [], _∷_, map}
+use Prim.Native.Nat.{ℕ, _+_, _-_, _<_}
+use native.Mathlib.Decide.{decLt}
+use native.Mathlib.Omega.{arith}
+use lib.Dec.{eqb, ltb}
+use lib.ListN.{length, getD, length-replicate, length-map}
+use borrow.Author.Tests.{eqb-true}
+use Rattle.lists.specs.First.{first}
+use Rattle.circuit.specs.Circuit.{Gate, Circuit, noGate, andKind, firstGate, references}
+use Rattle.circuit.specs.Each.{countGates, EachGate}
+use Rattle.circuit.specs.Refusal.{hasGateKind}
+use Rattle.circuit.specs.Fold.{foldGates, atOutputs}
+use Rattle.circuit.specs.Evaluation.{bitOp, bitOf, startBits, bits, evaluate}
+use Rattle.circuit.specs.Depth.{depthOp, startDepths, depths, depth, largest, circuitDepth}
+use Rattle.circuit.specs.Path.{isAmong}
+use Rattle.circuit.specs.ReverseDepth.{reverseDepth, isLive}
+use Rattle.circuit.specs.Critical.{isCritical, criticalCount}
+use Rattle.circuit.specs.Trim.{renameGate, rank, keepGates, isKept, trim}
+use Rattle.circuit.proofs.EachLaws.{each-at, each-of, each-map}
+use Rattle.circuit.proofs.ValidLaws.{Valid, Limited, among-head, among-tail}
+use Rattle.circuit.proofs.RankLaws.{rank-id, rank-lt, rank-eqb, keep-count, keep-length, each-keep, count-keep, keep-ordered, keep-value, keep-all}
+use Rattle.circuit.proofs.ReverseDepthLaws.{raised, marked, reverse-at, keep-raised, kept-low, kept-live, kept-gate, gone-zero, live-output, kept-closed}
+
+-- ---- members of a mapped list
+
+-- two mappings that agree on the members
+pub map-among : {A : Type 0} (f f′ : ℕ → A) (ρ : ℕ → ℕ) (os : List ℕ) → ((o : ℕ) → isAmong o os ≡ true → f′ (ρ o) ≡ f o) → map f′ (map ρ os) ≡ map f os
+map-among f f′ ρ [] h = refl
+map-among f f′ ρ (o ∷ os) h = ap₂ _∷_ (h o (among-head o os)) (map-among f f′ ρ os (λ x e. h x (among-tail x o os e)))
+
+map-same : (ρ : ℕ → ℕ) (os : List ℕ) → ((o : ℕ) → isAmong o os ≡ true → ρ o ≡ o) → map ρ os ≡ os
+map-same ρ [] h = refl
+map-same ρ (o ∷ os) h = ap₂ _∷_ (h o (among-head o os)) (map-same ρ os (λ x e. h x (among-tail x o os e)))
+
+-- what holds of each member's image holds of each member of the mapped list
+pub among-map : (P : ℕ → Type 0) (f : ℕ → ℕ) (os : List ℕ) → ((o : ℕ) → isAmong o os ≡ true → P (f o)) → (x : ℕ) → isAmong x (map f os) ≡ true → P x
+unfolding isAmong
+among-map P f [] h x e = absurd (true≢false (sym e))
+among-map P f (o ∷ os) h x e = go (eqb x (f o)) refl (among-map P f os (λ y t. h y (among-tail y o os t)) x)
+  where
+    go : (b : Bool) → eqb x (f o) ≡ b → (isAmong x (map f os) ≡ true → P x) → P x
+    go true q ih = rw (eqb-true x (f o) q) (h o (among-head o os))
+    go false q ih = ih (rw q at e)
+
+among-rank : (kept : ℕ → Bool) (v : ℕ) → kept v ≡ true → (os : List ℕ) → ((o : ℕ) → isAmong o os ≡ true → kept o ≡ true)
+    → isAmong (rank kept v) (map (rank kept) os) ≡ isAmong v os
+unfolding isAmong
+among-rank kept v e [] h = refl
+among-rank kept v e (o ∷ os) h =
+    rw (rank-eqb kept v o e (h o (among-head o os)), among-rank kept v e os (λ x t. h x (among-tail x o os t)))
+
+-- ---- a valid circuit
+
+module _ (c : Circuit) (ok : Valid c) where
+  kept-output : (o : ℕ) → isAmong o (c .outputs) ≡ true → isKept c o ≡ true
+  kept-output o e = kept-live c o (live-output c ok o e)
+
+  pub rank-first : rank (isKept c) (firstGate (c .inputs)) ≡ firstGate (c .inputs)
+  rank-first = rank-id (isKept c) (firstGate (c .inputs)) (kept-low c)
+
+  -- how many references are left
+  pub trim-references : references (trim c) ≡ rank (isKept c) (references c)
+  unfolding trim
+  trim-references = omega (arith, rank-first, keep-count (isKept c) (firstGate (c .inputs)) (c .gates))
+
+  pub trim-valid : Valid (trim c)
+  unfolding trim
+  trim-valid =
+      let n = firstGate (c .inputs) in
+      record {
+        ordered = rw rank-first at (keep-ordered (isKept c) n (c .gates) (ok .ordered) (kept-closed c ok));
+        kinds = rw rank-first at (each-keep (isKept c) (λ m g. hasGateKind m g ≡ true) n (c .gates) (each-map n (c .gates) (ok .kinds) (λ m g h k e. k)));
+        outputs-below = among-map (λ o. o < references (trim c)) (rank (isKept c)) (c .outputs)
+            (λ o e. rw trim-references (rank-lt (isKept c) o (references c) (kept-output o e) (ok .outputs-below o e)));
+      }
+
+  pub trim-limited : Limited c → Limited (trim c)
+  unfolding trim
+  trim-limited l =
+      let o : length (map (rank (isKept c)) (c .outputs)) ≡ length (c .outputs) = length-map (c .outputs) (rank (isKept c)) in
+      record {
+        inputs-limit = l .inputs-limit;
+        gates-limit = omega (arith, keep-length (isKept c) (firstGate (c .inputs)) (c .gates), l);
+        outputs-some = omega (arith, l);
+        outputs-limit = omega (arith, l);
+      }
+
+  -- every operation gives a reference that is kept, under its new number, the value that it had
+  pub trim-value : {A : Type 0} (op : ℕ → A → A → A) (z : A) (start : List A) → length start ≡ firstGate (c .inputs)
+      → (v : ℕ) → v < references c → isKept c v ≡ true
+      → getD (foldGates op z (trim c .gates) start) (rank (isKept c) v) z ≡ getD (foldGates op z (c .gates) start) v z
+  unfolding trim
+  trim-value op z start e = keep-value (isKept c) op z (firstGate (c .inputs)) (c .gates) start e (kept-low c) (ok .ordered) (kept-closed c ok)
+
+  -- so of the outputs
+  pub trim-outputs : {A : Type 0} (op : ℕ → A → A → A) (z : A) (start : List A) → length start ≡ firstGate (c .inputs)
+      → atOutputs z (trim c) (foldGates op z (trim c .gates) start) ≡ atOutputs z c (foldGates op z (c .gates) start)
+  unfolding trim
+  trim-outputs op z start e =
+      map-among (λ o. getD (foldGates op z (c .gates) start) o z) (λ o. getD (foldGates op z (trim c .gates) start) o z) (rank (isKept c)) (c .outputs)
+      (λ o t. trim-value op z start e o (ok .outputs-below o t) (kept-output o t))
+
+  pub trim-evaluate : (bytes : List ℕ) → length bytes ≡ c .inputs → evaluate (trim c) bytes ≡ evaluate c bytes
+  unfolding evaluate bits
+  trim-evaluate bytes e = trim-outputs bitOp 0 (startBits bytes) (omega (arith, length-map bytes bitOf))
+
+  start-length : length (startDepths (c .inputs)) ≡ firstGate (c .inputs)
+  start-length = length-replicate {A = ℕ} (firstGate (c .inputs)) 0
+
+  pub trim-depth : (v : ℕ) → v < references c → isKept c v ≡ true → depth (trim c) (rank (isKept c) v) ≡ depth c v
+  unfolding depths trim
+  trim-depth = trim-value depthOp 0 (startDepths (c .inputs)) start-length
+
+  pub trim-circuit-depth : circuitDepth (trim c) ≡ circuitDepth c
+  unfolding circuitDepth depths trim
+  trim-circuit-depth = ap largest (trim-outputs depthOp 0 (startDepths (c .inputs)) start-length)
+
+  pub trim-reverse-depth : (v : ℕ) → isKept c v ≡ true → reverseDepth (trim c) (rank (isKept c) v) ≡ reverseDepth c v
+  unfolding trim marked
+  trim-reverse-depth v h =
+      let n = firstGate (c .inputs) in
+      let outputs = map (rank (isKept c)) (c .outputs) in
+      reverse-at (trim c) trim-valid (rank (isKept c) v)
+      ∙ ap (λ k. raised k (keepGates (isKept c) n (c .gates)) (marked outputs) (rank (isKept c) v)) (sym rank-first)
+      ∙ keep-raised (isKept c) (marked (c .outputs)) (marked outputs) n (c .gates) (kept-closed c ok)
+      (λ r f. sym (reverse-at c ok r) ∙ gone-zero c r f)
+      (λ r e. ap (λ b. first b 1 0) (among-rank (isKept c) r e (c .outputs) kept-output)) v h
+      ∙ sym (reverse-at c ok v)
+
+  critical-kept : (m : ℕ) (g : Gate) → m < references c → isKept c m ≡ true → isCritical (trim c) (rank (isKept c) m) (renameGate (rank (isKept c)) g) ≡ isCritical c m g
+  critical-kept m g h e = rw (trim-reverse-depth m e, trim-depth m h e, trim-circuit-depth)
+
+  critical-gone : (m : ℕ) (g : Gate) → isKept c m ≡ false → isCritical c m g ≡ false
+  critical-gone m g e = rw (gone-zero c m e) (and-false (eqb (g .kind) andKind))
+
+  pub trim-critical-count : criticalCount (trim c) ≡ criticalCount c
+  unfolding criticalCount trim
+  trim-critical-count =
+      ap (λ n. countGates (isCritical (trim c)) n (trim c .gates)) (sym rank-first)
+      ∙ count-keep (isKept c) (isCritical c) (isCritical (trim c)) (firstGate (c .inputs)) (c .gates)
+      (each-of _ (firstGate (c .inputs)) (c .gates) (λ i h.
+      let g = getD (c .gates) i noGate in
+      (critical-kept (firstGate (c .inputs) + i) g (omega arith), critical-gone (firstGate (c .inputs) + i) g)))
+
+  -- every gate that is left is live
+  pub trim-live : EachGate (λ m g. isLive (trim c) m ≡ true) (firstGate (trim c .inputs)) (trim c .gates)
+  unfolding trim
+  trim-live =
+      rw rank-first at (each-keep (isKept c) (λ m g. isLive (trim c) m ≡ true) (firstGate (c .inputs)) (c .gates)
+      (each-map (firstGate (c .inputs)) (c .gates) (ok .kinds) (λ m g h k e. ap (ltb 0) (trim-reverse-depth m e) ∙ kept-gate c m h e)))
+
+  -- a circuit all of whose gates are live is trimmed
+  pub trim-same : EachGate (λ m g. isLive c m ≡ true) (firstGate (c .inputs)) (c .gates) → trim c ≡ c
+  unfolding trim
+  trim-same a =
+      ap₂ (λ g o. record { inputs = c .inputs; gates = g; outputs = o })
+      (keep-all (isKept c) (firstGate (c .inputs)) (c .gates) (ok .ordered) (kept-low c) keeps)
+      (map-same (rank (isKept c)) (c .outputs) (λ o e. rank-id (isKept c) o (λ r l. all r (omega (arith, ok .outputs-below o e)))))
+    where
+      keeps : EachGate (λ m g. isKept c m ≡ true) (firstGate (c .inputs)) (c .gates)
+      keeps = each-map (firstGate (c .inputs)) (c .gates) a (λ m g h e. kept-live c m e)
+
+      all : (r : ℕ) → r < references c → isKept c r ≡ true
+      all r h =
+          elim (decLt r (firstGate (c .inputs))) [
+            | yes l ↦ kept-low c r l
+            | no l ↦
+                let e : firstGate (c .inputs) + (r - firstGate (c .inputs)) ≡ r = omega arith in
+                rw e at (each-at (λ m g. isKept c m ≡ true) (firstGate (c .inputs)) (c .gates) keeps (r - firstGate (c .inputs)) (omega arith))
+          ]
+
+pub trim-trim : (c : Circuit) → Valid c → trim (trim c) ≡ trim c
+trim-trim c ok = trim-same (trim c) (trim-valid c ok) (trim-live c ok)

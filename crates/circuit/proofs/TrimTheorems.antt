@@ -1,0 +1,135 @@
+-- The theorems on trimming, of tables. Assumes nothing.
+use mathlib.Core.Path.{_≡_, refl, sym, ap, ap₂, _∙_}
+use mathlib.Core.Bool.{Bool, true, false, not, or-true}
+use mathlib.Core.List.{List, [], _∷_}
+use Prim.Native.Nat.{ℕ, _+_, _-_, _≤_, _<_}
+use native.Mathlib.Omega.{arith}
+use lib.Dec.{eqb, leb, ltb}
+use lib.ListN.{length, length-map}
+use borrow.Author.Tests.{eqb-true, leb-true, ltb-true}
+use Rattle.lists.proofs.Tests.{left-of, right-of}
+use Rattle.lists.specs.First.{first}
+use Rattle.lines.specs.Refusal.{Outcome, leaving, refused, gives, noTable}
+use Rattle.lines.specs.Calls.{over}
+use Rattle.circuit.specs.Circuit.{maxOutputs, firstGate, references, gateAt}
+use Rattle.circuit.specs.Table.{inputs, outputs, gateLines, decode, encode}
+use Rattle.circuit.specs.WellFormed.{WellFormed}
+use Rattle.circuit.specs.Evaluation.{evaluate}
+use Rattle.circuit.specs.Depth.{depth, circuitDepth}
+use Rattle.circuit.specs.ReverseDepth.{isLive, above}
+use Rattle.circuit.specs.Critical.{criticalCount}
+use Rattle.circuit.specs.Trim.{rank, isKept, trim, trimOf}
+use Rattle.circuit.specs.EvaluateCall.{evaluating}
+use Rattle.circuit.specs.Theorems.{TrimmedIsWellFormed, TrimKeepsCounts, TrimKeepsGates, TrimKeepsOutputs, TrimKeepsDepth, TrimKeepsCriticalCount, TrimKeepsDepths, TrimmedIsLive, TrimOfTrim, TrimKeepsCalls}
+use Rattle.circuit.proofs.TableLaws.{gates-length, outputs-length, refs-decode}
+use Rattle.circuit.proofs.EachLaws.{each-at}
+use Rattle.circuit.proofs.RefusalLaws.{whole, well-formed-accepted}
+use Rattle.circuit.proofs.EncodingLaws.{decode-after-encode, encode-inputs, encode-gates, encode-outputs, encode-long}
+use Rattle.circuit.proofs.ValidLaws.{valid-decode, limited-decode, well-formed-encode}
+use Rattle.circuit.proofs.MeasureLaws.{measurement-well-formed}
+use Rattle.circuit.proofs.RankLaws.{rank-mono, keep-length}
+use Rattle.circuit.proofs.KeptLaws.{live-count, keep-at}
+use Rattle.circuit.proofs.TrimLaws.{rank-first, trim-valid, trim-limited, trim-evaluate, trim-depth, trim-circuit-depth, trim-reverse-depth, trim-critical-count, trim-live, trim-trim}
+
+-- the trimmed table says the trimmed circuit
+pub decode-trim : (t : List ℕ) → decode (trimOf t) ≡ trim (decode t)
+decode-trim t = decode-after-encode (trim (decode t))
+
+pub trimmed-is-well-formed : TrimmedIsWellFormed
+trimmed-is-well-formed t w =
+    let ok = valid-decode t w in
+    well-formed-encode (trim (decode t)) (trim-valid (decode t) ok) (trim-limited (decode t) ok (limited-decode t (w .sized)))
+
+pub trim-keeps-counts : TrimKeepsCounts
+unfolding trim
+trim-keeps-counts t w =
+    let c = decode t in (
+      encode-inputs (trim c),
+      encode-outputs (trim c) ∙ length-map (c .outputs) (rank (isKept c)) ∙ outputs-length t,
+      omega (arith, encode-gates (trim c), keep-length (isKept c) (firstGate (inputs t)) (gateLines t), gates-length t),
+    )
+
+-- the trimmed table is no longer than the table
+pub trim-length : (t : List ℕ) → WellFormed t → length (trimOf t) ≤ length t
+trim-length t w = omega (arith, encode-long (trim (decode t)), trim-keeps-counts t w, w .sized .long)
+
+pub trim-keeps-gates : TrimKeepsGates
+unfolding trim
+trim-keeps-gates t w = (
+  encode-gates (trim (decode t)) ∙ live-count (decode t) (firstGate (inputs t)) (gateLines t) (omega arith),
+  λ v g l.
+      let c = decode t in
+      let n = firstGate (inputs t) in
+      let kept = isKept c in
+      let low : n ≤ v = leb-true n v (left-of (leb n v) (ltb v (references c)) g) in
+      let high : v < references c = ltb-true v (references c) (right-of (leb n v) (ltb v (references c)) g) in
+      let split : n + (v - n) ≡ v = omega arith in
+      let k : kept (n + (v - n)) ≡ true = ap kept split ∙ rw (l, or-true) in
+      let r : rank kept (n + (v - n)) ≡ rank kept n + (rank kept v - n) = omega (arith, ap (rank kept) split, rank-first c (valid-decode t w), rank-mono kept n v low) in
+      ap (λ d. gateAt d (rank kept v)) (decode-trim t) ∙ keep-at kept n (gateLines t) (v - n) (rank kept v - n) (omega arith) k r,
+)
+
+pub trim-keeps-outputs : TrimKeepsOutputs
+trim-keeps-outputs t w bytes e = ap (λ c. evaluate c bytes) (decode-trim t) ∙ trim-evaluate (decode t) (valid-decode t w) bytes e
+
+pub trim-keeps-depth : TrimKeepsDepth
+trim-keeps-depth t w = ap circuitDepth (decode-trim t) ∙ trim-circuit-depth (decode t) (valid-decode t w)
+
+pub trim-keeps-critical-count : TrimKeepsCriticalCount
+trim-keeps-critical-count t w = ap criticalCount (decode-trim t) ∙ trim-critical-count (decode t) (valid-decode t w)
+
+pub trim-keeps-depths : TrimKeepsDepths
+trim-keeps-depths t w v h e =
+    let c = decode t in
+    let ok = valid-decode t w in (
+      ap (λ d. depth d (rank (isKept c) v)) (decode-trim t) ∙ trim-depth c ok v (rw (refs-decode t) h) e,
+      ap (λ d. above d (rank (isKept c) v)) (decode-trim t) ∙ ap (λ x. x - 1) (trim-reverse-depth c ok v e),
+      ap (λ d. isLive d (rank (isKept c) v)) (decode-trim t) ∙ ap (λ x. ltb 0 x) (trim-reverse-depth c ok v e),
+    )
+
+pub trimmed-is-live : TrimmedIsLive
+trimmed-is-live t w i h =
+    let c = decode t in
+    let n = encode-inputs (trim c) in
+    ap₂ (λ d k. isLive d (firstGate k + i)) (decode-trim t) n
+    ∙ each-at (λ m g. isLive (trim c) m ≡ true) (firstGate (trim c .inputs)) (trim c .gates) (trim-live c (valid-decode t w)) i (omega (arith, encode-gates (trim c)))
+
+pub trim-of-trim : TrimOfTrim
+trim-of-trim t w = ap encode (ap trim (decode-trim t) ∙ trim-trim (decode t) (valid-decode t w))
+
+-- ---- the calls
+
+-- of a well-formed table, `evaluate` tests only the buffers' lengths
+pub evaluation-accepted : (t : List ℕ) → WellFormed t → (inputBytes outputBytes : List ℕ)
+    → evaluating t inputBytes outputBytes
+    ≡ first (ltb (length outputBytes) maxOutputs) (leaving (refused 2 noTable) outputBytes)
+    (first (not (eqb (length inputBytes) (inputs t))) (leaving (refused 1 noTable) outputBytes)
+    (leaving (gives (outputs t ∷ [])) (over (evaluate (decode t) inputBytes) outputBytes)))
+unfolding evaluating
+evaluation-accepted t w i o = rw (whole t (w .sized), well-formed-accepted t w)
+
+trim-keeps-evaluation : (t : List ℕ) → WellFormed t → (inputBytes outputBytes : List ℕ)
+    → evaluating (trimOf t) inputBytes outputBytes ≡ evaluating t inputBytes outputBytes
+trim-keeps-evaluation t w i o =
+    let n = trim-keeps-counts t w in
+    evaluation-accepted (trimOf t) (trimmed-is-well-formed t w) i o
+    ∙ ap₂ (λ a b. answer (eqb (length i) a) b (evaluate (decode (trimOf t)) i)) (n .0) (n .1)
+    ∙ go (eqb (length i) (inputs t)) refl
+    ∙ sym (evaluation-accepted t w i o)
+  where
+    answer : Bool → ℕ → List ℕ → Outcome
+    answer asMany n bits =
+        first (ltb (length o) maxOutputs) (leaving (refused 2 noTable) o)
+        (first (not asMany) (leaving (refused 1 noTable) o) (leaving (gives (n ∷ [])) (over bits o)))
+
+    go : (b : Bool) → eqb (length i) (inputs t) ≡ b → answer b (outputs t) (evaluate (decode (trimOf t)) i) ≡ answer b (outputs t) (evaluate (decode t) i)
+    go true e = ap (answer true (outputs t)) (trim-keeps-outputs t w i (eqb-true (length i) (inputs t) e))
+    go false e = refl
+
+pub trim-keeps-calls : TrimKeepsCalls
+trim-keeps-calls t w = (
+  trim-keeps-evaluation t w,
+  measurement-well-formed (trimOf t) (trimmed-is-well-formed t w)
+      ∙ ap₂ (λ d n. gives (d ∷ n ∷ [])) (trim-keeps-depth t w) (trim-keeps-critical-count t w)
+      ∙ sym (measurement-well-formed t w),
+)

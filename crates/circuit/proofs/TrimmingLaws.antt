@@ -1,0 +1,210 @@
+-- The loops that renumber references and write the trimmed table. Assumes nothing.
+use mathlib.Core.Path.{_≡_, refl, sym, ap, ap₂, _∙_}
+use mathlib.Core.Bool.{true, false, _||_}
+use mathlib.Core.List.{List, [], _∷_, _++_, map}
+use Prim.Native.Nat.{ℕ, _+_, _*_, _≤_, _<_}
+use native.Mathlib.Nat.{add-zero}
+use native.Mathlib.Numerals.{add-one}
+use native.Mathlib.Omega.{arith}
+use lib.Dec.{ltb}
+use lib.ListN.{length, take, drop, getD, set, length-append, length-map}
+use lib.Seq.{sets, length-sets, take-at}
+use borrow.Author.Tests.{lt-ltb, le-ltb}
+use Rattle.lists.proofs.Stores.{add-two, add-three, sets-append, sets-behind}
+use Rattle.lists.proofs.Written.{Written, written-none, written-more, written-all}
+use Rattle.lines.specs.Calls.{over}
+use Rattle.circuit.specs.Circuit.{closingKind, firstGate}
+use Rattle.circuit.specs.Table.{inputs, gates, outputs, refs, gatesFrom, closingsFrom, tableEnd, lineAt, gateLines, closingLine, decode, encodeLines}
+use Rattle.circuit.specs.WellFormed.{WellFormed}
+use Rattle.circuit.specs.ReverseDepth.{reverseDepths}
+use Rattle.circuit.specs.Trim.{renameGate, rank, ranks, keepGates, isKept, trimOf}
+use Rattle.circuit.proofs.TableLaws.{gate-step, gates-length, output-step, outputs-length}
+use Rattle.circuit.proofs.RefusalLaws.{left-below, right-below, output-below}
+use Rattle.circuit.proofs.EncodingLaws.{encode-length}
+use Rattle.circuit.proofs.RankLaws.{rank-none, rank-kept, rank-gone, rank-le, ranks-length, ranks-at, keep-length}
+use Rattle.circuit.proofs.LoopLaws.{kept-read, gate-kept-read, rank-read, trim-lines, trim-count, append-kept, append-gone, append-gates-end, append-closing, append-closings-end}
+
+-- ---- the new numbers
+
+-- the first v references have theirs, and `next` is that of v
+pub record RankedTo (t d₀ d : List ℕ) (next v : ℕ) : Type 0 where
+  pub follows : next ≡ rank (isKept (decode t)) v
+  pub written : Written (ranks (isKept (decode t)) (refs t)) d₀ d v
+
+module _ (t d₀ : List ℕ) where
+  pub ranked-none : RankedTo t d₀ d₀ 0 0
+  ranked-none = record { follows = sym (rank-none (isKept (decode t))); written = written-none 0 (ranks (isKept (decode t)) (refs t)) d₀ }
+
+  module _ (d : List ℕ) (next v : ℕ) (r : RankedTo t d₀ d next v) where
+    pub next-limit : next ≤ v
+    next-limit = omega (arith, r .follows, rank-le (isKept (decode t)) v)
+
+    pub ranked-all : refs t ≡ v → take (refs t) d ≡ ranks (isKept (decode t)) (refs t)
+    ranked-all e =
+        let rs = ranks (isKept (decode t)) (refs t) in
+        let l = ranks-length (isKept (decode t)) (refs t) in
+        ap (take (refs t)) (written-all 0 rs d₀ d v (r .written) (sym e ∙ sym l)) ∙ take-at rs _ (refs t) l
+
+    pub ranked-count : WellFormed t → refs t ≡ v → next ≡ firstGate (inputs t) + length (keepGates (isKept (decode t)) (firstGate (inputs t)) (gateLines t))
+    ranked-count w e = r .follows ∙ ap (rank (isKept (decode t))) (sym e) ∙ trim-count t w
+
+    module _ (u : List ℕ) (e : take (refs t) u ≡ reverseDepths (decode t)) (fits : refs t ≤ length d₀) (h : v < refs t) where
+      stored : Written (ranks (isKept (decode t)) (refs t)) d₀ (set d v next) (v + 1)
+      stored =
+          let kept = isKept (decode t) in
+          written-more 0 (ranks kept (refs t)) d₀ d v next (r .written) (omega (arith, ranks-length kept (refs t))) (omega arith) (r .follows ∙ sym (ranks-at kept (refs t) v h))
+
+      pub ranked-kept : (ltb v (firstGate (inputs t)) || ltb 0 (getD u v 0)) ≡ true → RankedTo t d₀ (set d v next) (next + 1) (v + 1)
+      ranked-kept k =
+          record { follows = ap (λ x. x + 1) (r .follows) ∙ sym (rank-kept (isKept (decode t)) v (sym (kept-read t u e v h) ∙ k)); written = stored }
+
+      pub ranked-gone : (ltb v (firstGate (inputs t)) || ltb 0 (getD u v 0)) ≡ false → RankedTo t d₀ (set d v next) next (v + 1)
+      ranked-gone k = record { follows = r .follows ∙ sym (rank-gone (isKept (decode t)) v (sym (kept-read t u e v h) ∙ k)); written = stored }
+
+-- ---- lines stored one after the other
+
+pub line-stores : (d : List ℕ) (at a b c : ℕ) → set (set (set d at a) (at + 1) b) (at + 2) c ≡ sets d at (a ∷ b ∷ c ∷ [])
+line-stores d at a b c = ap₂ (λ p q. set (set (set d at a) p b) q c) (add-one at) (add-two at)
+
+-- a gate's line with the new numbers of its operands
+pub gate-stores : (t names d d′ : List ℕ) (at i kind l r : ℕ) → kind ≡ getD t (gatesFrom t + 3 * i) 0 → l ≡ getD t (gatesFrom t + 3 * i + 1) 0
+    → r ≡ getD t (gatesFrom t + 3 * i + 2) 0 → d′ ≡ sets d at (kind ∷ getD names l 0 ∷ getD names r 0 ∷ [])
+    → d′ ≡ sets d at (encodeLines (renameGate (λ v. getD names v 0) (lineAt t (gatesFrom t + 3 * i)) ∷ []))
+unfolding encodeLines
+gate-stores t names d d′ at i kind l r k p q e =
+    e ∙ ap (λ x. sets d at (x ∷ getD names l 0 ∷ getD names r 0 ∷ [])) k
+    ∙ ap₂ (λ x y. sets d at (getD t (gatesFrom t + 3 * i) 0 ∷ getD names x 0 ∷ getD names y 0 ∷ [])) p q
+
+-- `rest` is still to be stored, from place `at` on, of `total`, which begins at `from`
+pub record Storing (total d₀ : List ℕ) (from : ℕ) (rest d : List ℕ) (at : ℕ) : Type 0 where
+  pub stores : sets d at rest ≡ sets d₀ from total
+  pub place : at + length rest ≡ from + length total
+  pub long : length d ≡ length d₀
+
+module _ (total d₀ : List ℕ) (from : ℕ) where
+  pub storing-none : (rest : List ℕ) (at : ℕ) → rest ≡ total → at ≡ from → Storing total d₀ from rest d₀ at
+  storing-none rest at e q =
+      record { stores = ap₂ (λ k r. sets d₀ k r) q e; place = ap₂ (λ k r. k + length r) q e; long = refl }
+
+  module _ (rest d : List ℕ) (at : ℕ) (s : Storing total d₀ from rest d at) where
+    pub storing-line : (rest′ d′ : List ℕ) (at′ a b c : ℕ) → rest ≡ a ∷ b ∷ c ∷ rest′ → d′ ≡ sets d at (a ∷ b ∷ c ∷ []) → at′ ≡ at + 3
+        → Storing total d₀ from rest′ d′ at′
+    storing-line rest′ d′ at′ a b c e f q =
+        record {
+          stores = ap₂ (λ x k. sets x k rest′) f (q ∙ add-three at) ∙ sym (ap (sets d at) e) ∙ s .stores;
+          place = omega (arith, s .place, ap length e);
+          long = ap length f ∙ length-sets d at (a ∷ b ∷ c ∷ []) ∙ s .long;
+        }
+
+    pub storing-same : (rest′ : List ℕ) → rest ≡ rest′ → Storing total d₀ from rest′ d at
+    storing-same rest′ e =
+        record { stores = ap (sets d at) (sym e) ∙ s .stores; place = ap (λ r. at + length r) (sym e) ∙ s .place; long = s .long }
+
+    pub storing-all : rest ≡ [] → (d ≡ sets d₀ from total) × (at ≡ from + length total)
+    storing-all e = (sym (ap (sets d at) e) ∙ s .stores, omega (arith, s .place, ap length e))
+
+-- ---- the gate lines, up to gate i
+
+abbrev pub GatesTo : (t d₀ d : List ℕ) (at i : ℕ) → Type 0
+GatesTo t d₀ d at i =
+    Storing (encodeLines (keepGates (isKept (decode t)) (firstGate (inputs t)) (gateLines t))) d₀ (gatesFrom t)
+    (encodeLines (keepGates (isKept (decode t)) (firstGate (inputs t) + i) (drop i (gateLines t)))) d at
+
+module _ (t d₀ : List ℕ) where
+  pub gates-none : (at : ℕ) → at ≡ gatesFrom t → GatesTo t d₀ d₀ at 0
+  gates-none at q = storing-none _ d₀ (gatesFrom t) _ at (ap (λ k. encodeLines (keepGates (isKept (decode t)) k (gateLines t))) (add-zero (firstGate (inputs t)))) q
+
+  module _ (d : List ℕ) (at i : ℕ) (s : GatesTo t d₀ d at i) where
+    pub gates-all : gates t ≤ i
+        → (d ≡ sets d₀ (gatesFrom t) (encodeLines (keepGates (isKept (decode t)) (firstGate (inputs t)) (gateLines t))))
+        × (at ≡ gatesFrom t + length (encodeLines (keepGates (isKept (decode t)) (firstGate (inputs t)) (gateLines t))))
+    gates-all h = storing-all _ d₀ (gatesFrom t) _ d at s (append-gates-end (isKept (decode t)) (firstGate (inputs t)) (gateLines t) i (omega (arith, gates-length t)))
+
+    module _ (w : WellFormed t) (u : List ℕ) (e : take (refs t) u ≡ reverseDepths (decode t)) (h : i < gates t) where
+      pub gates-kept : (names : List ℕ) → take (refs t) names ≡ ranks (isKept (decode t)) (refs t) → 0 < getD u (firstGate (inputs t) + i) 0
+          → (d′ : List ℕ) → d′ ≡ sets d at (encodeLines (renameGate (λ v. getD names v 0) (lineAt t (gatesFrom t + 3 * i)) ∷ []))
+          → GatesTo t d₀ d′ (at + 3) (i + 1)
+      unfolding encodeLines
+      gates-kept names n l d′ f =
+          let kept = isKept (decode t) in
+          let g = lineAt t (gatesFrom t + 3 * i) in
+          let a = rank-read kept (refs t) names (g .left) n (omega (arith, left-below t w i h)) in
+          let b = rank-read kept (refs t) names (g .right) n (omega (arith, right-below t w i h)) in
+          let k = sym (gate-kept-read t u e i h) ∙ lt-ltb 0 (getD u (firstGate (inputs t) + i) 0) l in
+          storing-line _ d₀ (gatesFrom t) _ d at s _ d′ (at + 3) (g .kind) (rank kept (g .left)) (rank kept (g .right))
+          (append-kept kept (firstGate (inputs t)) (gateLines t) i g (gate-step t i h) k)
+          (f ∙ ap₂ (λ x y. sets d at (g .kind ∷ x ∷ y ∷ [])) a b) refl
+
+      pub gates-gone : getD u (firstGate (inputs t) + i) 0 ≤ 0 → GatesTo t d₀ d at (i + 1)
+      gates-gone l =
+          let k = sym (gate-kept-read t u e i h) ∙ le-ltb 0 (getD u (firstGate (inputs t) + i) 0) l in
+          storing-same _ d₀ (gatesFrom t) _ d at s _ (append-gone (isKept (decode t)) (firstGate (inputs t)) (gateLines t) i _ (gate-step t i h) k)
+
+-- ---- the closing lines, up to output i
+
+abbrev pub ClosingsTo : (t d₀ d : List ℕ) (from i : ℕ) → Type 0
+ClosingsTo t d₀ d from i =
+    Storing (encodeLines (map closingLine (map (rank (isKept (decode t))) (decode t .outputs)))) d₀ from
+    (encodeLines (map closingLine (map (rank (isKept (decode t))) (drop i (decode t .outputs))))) d (from + 3 * i)
+
+module _ (t d₀ : List ℕ) (from : ℕ) where
+  pub closings-none : ClosingsTo t d₀ d₀ from 0
+  closings-none = storing-none _ d₀ from _ (from + 3 * 0) refl (omega arith)
+
+  module _ (d : List ℕ) (i : ℕ) (s : ClosingsTo t d₀ d from i) where
+    pub closings-all : outputs t ≤ i → d ≡ sets d₀ from (encodeLines (map closingLine (map (rank (isKept (decode t))) (decode t .outputs))))
+    closings-all h =
+        storing-all _ d₀ from _ d (from + 3 * i) s (append-closings-end (rank (isKept (decode t))) (decode t .outputs) i (omega (arith, outputs-length t))) .0
+
+    pub closings-more : WellFormed t → i < outputs t → (names : List ℕ) → take (refs t) names ≡ ranks (isKept (decode t)) (refs t)
+        → (o : ℕ) → o ≡ getD t (closingsFrom t + 3 * i + 1) 0
+        → (d′ : List ℕ) → d′ ≡ sets d (from + 3 * i) (closingKind ∷ getD names o 0 ∷ 0 ∷ []) → ClosingsTo t d₀ d′ from (i + 1)
+    closings-more w h names n o p d′ f =
+        let kept = isKept (decode t) in
+        let a = rank-read kept (refs t) names o n (omega (arith, output-below t w i h)) in
+        storing-line _ d₀ from _ d (from + 3 * i) s _ d′ (from + 3 * (i + 1)) closingKind (rank kept o) 0
+        (append-closing (rank kept) (decode t .outputs) i o (output-step t i h ∙ ap (λ x. x ∷ drop (i + 1) (decode t .outputs)) (sym p)))
+        (f ∙ ap (λ x. sets d (from + 3 * i) (closingKind ∷ x ∷ 0 ∷ [])) a) (omega arith)
+
+-- ---- the whole table
+
+module _ (t : List ℕ) where
+  -- where the closing lines of the trimmed table begin, there is room for them
+  pub closings-room : (from size : ℕ) → tableEnd t ≤ size
+      → from ≡ gatesFrom t + length (encodeLines (keepGates (isKept (decode t)) (firstGate (inputs t)) (gateLines t))) → from + 3 * outputs t ≤ size
+  closings-room from size h e =
+      let gs = keepGates (isKept (decode t)) (firstGate (inputs t)) (gateLines t) in
+      omega (arith, encode-length gs, keep-length (isKept (decode t)) (firstGate (inputs t)) (gateLines t), gates-length t)
+
+  pub trim-stores : (d d1 d2 d3 : List ℕ) (kept at : ℕ)
+      → kept ≡ length (keepGates (isKept (decode t)) (firstGate (inputs t)) (gateLines t))
+      → d1 ≡ sets d 0 (inputs t ∷ kept ∷ outputs t ∷ [])
+      → d2 ≡ sets d1 (gatesFrom t) (encodeLines (keepGates (isKept (decode t)) (firstGate (inputs t)) (gateLines t)))
+      → at ≡ gatesFrom t + length (encodeLines (keepGates (isKept (decode t)) (firstGate (inputs t)) (gateLines t)))
+      → d3 ≡ sets d2 at (encodeLines (map closingLine (map (rank (isKept (decode t))) (decode t .outputs))))
+      → d3 ≡ sets d 0 (trimOf t)
+  trim-stores d d1 d2 d3 kept at k e1 e2 q e3 =
+      let gs = encodeLines (keepGates (isKept (decode t)) (firstGate (inputs t)) (gateLines t)) in
+      let os = encodeLines (map closingLine (map (rank (isKept (decode t))) (decode t .outputs))) in
+      e3 ∙ ap₂ (λ x p. sets x p os) e2 q ∙ sets-append gs os d1 (gatesFrom t) (length gs) refl
+      ∙ ap (λ x. sets x (gatesFrom t) (gs ++ os)) e1 ∙ ap (λ n. sets d 0 (inputs t ∷ n ∷ outputs t ∷ (gs ++ os))) k ∙ ap (sets d 0) (sym (trim-lines t))
+
+  trim-fits : length (trimOf t) ≤ tableEnd t
+  trim-fits =
+      let gs = keepGates (isKept (decode t)) (firstGate (inputs t)) (gateLines t) in
+      let os = map closingLine (map (rank (isKept (decode t))) (decode t .outputs)) in
+      omega (
+        arith,
+        ap length (trim-lines t),
+        length-append (encodeLines gs) (encodeLines os),
+        encode-length gs,
+        encode-length os,
+        length-map (map (rank (isKept (decode t))) (decode t .outputs)) closingLine,
+        length-map (decode t .outputs) (rank (isKept (decode t))),
+        outputs-length t,
+        keep-length (isKept (decode t)) (firstGate (inputs t)) (gateLines t),
+        gates-length t,
+      )
+
+  pub trim-over : (d : List ℕ) → tableEnd t ≤ length d → sets d 0 (trimOf t) ≡ over (trimOf t) d
+  trim-over d h = sets-behind [] (trimOf t) d 0 refl (omega (arith, trim-fits))

@@ -1,0 +1,32 @@
+use mathlib.Core.Path.{ap}
+use Prim.Native.Nat.{_-_}
+use lib.ListN.{set}
+use borrow.Author.Needs.{needs}
+use Rattle.circuit.proofs.reverse_depth.raise_place.Statement.{statement}
+use Rattle.circuit.proofs.reverse_depth.raise_place.Tie as tie
+
+mul-larger : tie.Need-mul-larger
+mul-larger c = search needs
+
+slice-read-larger : tie.Need-slice-read-larger
+slice-read-larger c = search needs
+
+larger-requires : tie.Need-larger-requires
+larger-requires c κs = search needs
+
+mul-d : tie.Need-mul-d
+mul-d c = search needs
+
+slice-write-d : tie.Need-slice-write-d
+slice-write-d c = search needs
+
+same-length : tie.Need-same-length
+same-length c = search needs
+
+returns : tie.Need-returns
+returns c = ap (set (c .before .before .before .args .d .now) (c .before .before .before .args .v)) (c .larger .ensures)
+
+pub raise-place-spec : {M : Type 1} → statement M
+raise-place-spec =
+    tie.close
+    (tie.spec mul-larger slice-read-larger larger-requires mul-d slice-write-d same-length returns)

@@ -1,0 +1,52 @@
+-- 01, Circuits, 1 to 4: circuits, apart from the tables that they are written in.
+use Prim.Native.Nat.{ℕ, _+_, _-_}
+use mathlib.Core.List.{List}
+use lib.ListN.{length, getD}
+
+-- 01, Circuits, 2: a gate is its kind and its two operands. A closing line is held in the same record.
+pub record Gate : Type 0 where
+  pub kind : ℕ
+  pub left : ℕ
+  pub right : ℕ
+
+-- the gates in line order, and the outputs' references in the order of the closing lines
+pub record Circuit : Type 0 where
+  pub inputs : ℕ
+  pub gates : List Gate
+  pub outputs : List ℕ
+
+-- the kinds of gates, and what a closing line has in the kind's place
+abbrev pub xorKind : ℕ
+xorKind = 1
+
+abbrev pub andKind : ℕ
+andKind = 2
+
+abbrev pub closingKind : ℕ
+closingKind = 3
+
+-- 01, Circuits, 1: the limits of the head's numbers
+abbrev pub maxInputs : ℕ
+maxInputs = 512
+
+abbrev pub maxGates : ℕ
+maxGates = 2048
+
+abbrev pub maxOutputs : ℕ
+maxOutputs = 256
+
+-- 01, Circuits, 4: references 0 and 1 are the constants, then come the inputs, then the gates: the first gate's reference
+abbrev pub firstGate : (inputs : ℕ) → ℕ
+firstGate inputs = inputs + 2
+
+-- how many references there are: each is below this
+abbrev pub references : Circuit → ℕ
+references c = firstGate (c .inputs) + length (c .gates)
+
+-- what stands where there is no gate
+abbrev pub noGate : Gate
+noGate = record { kind = 0; left = 0; right = 0 }
+
+-- the gate of reference v, where v is one of a gate
+abbrev pub gateAt : Circuit → (v : ℕ) → Gate
+gateAt c v = getD (c .gates) (v - firstGate (c .inputs)) noGate

@@ -1,0 +1,16 @@
+pub mod Circuit
+pub mod Table
+pub mod Each
+pub mod Refusal
+pub mod WellFormed
+pub mod Fold
+pub mod Valuation
+pub mod Evaluation
+pub mod Depth
+pub mod Path
+pub mod ReverseDepth
+pub mod Critical
+pub mod Trim
+pub mod EvaluateCall
+pub mod MeasureCall
+pub mod Theorems

@@ -1,0 +1,24 @@
+-- The call `measure`: what it gives back, for every input.
+use Prim.Native.Nat.{ℕ}
+use mathlib.Core.Bool.{not}
+use mathlib.Core.List.{List, [], _∷_}
+use lib.Dec.{eqb}
+use Rattle.lists.specs.First.{first}
+use Rattle.lines.specs.Refusal.{Result, refused, gives}
+use Rattle.circuit.specs.declared.Measured.{Measured}
+use Rattle.circuit.specs.declared.Measured.the-variants.{Pair, Refused}
+use Rattle.circuit.specs.Table.{decode}
+use Rattle.circuit.specs.Refusal.{refusal, circuitTable}
+use Rattle.circuit.specs.Depth.{circuitDepth}
+use Rattle.circuit.specs.Critical.{criticalCount}
+
+-- the answer: a success gives D and N
+abbrev pub paperValues : Measured → Result
+paperValues (Pair depth critical) = gives (depth ∷ critical ∷ [])
+paperValues (Refused r) = refused (r .number) (r .table)
+
+-- the circuit's refusals, 1 and 4 to 7; else the pair of the circuit as read
+unfoldable pub measuring : (circuit : List ℕ) → Result
+measuring circuit =
+    first (not (eqb (refusal circuit) 0)) (refused (refusal circuit) circuitTable)
+    (gives (circuitDepth (decode circuit) ∷ criticalCount (decode circuit) ∷ []))

@@ -1,0 +1,140 @@
+-- The theorems about circuits, as statements; each is proved under its name in proofs/.
+use Prim.Native.Nat.{ℕ, _+_, _≤_, _<_}
+use mathlib.Core.Path.{_≡_}
+use mathlib.Core.Logic.{_↔_}
+use mathlib.Core.Bool.{true}
+use mathlib.Core.List.{List}
+use lib.ListN.{length, getD}
+use Rattle.circuit.specs.Circuit.{Gate, Circuit, firstGate, gateAt}
+use Rattle.circuit.specs.Table.{inputs, gates, outputs, refs, gateLines, decode, encode}
+use Rattle.circuit.specs.Refusal.{refusal}
+use Rattle.circuit.specs.WellFormed.{WellFormed}
+use Rattle.circuit.specs.Each.{countGates, EachGate}
+use Rattle.circuit.specs.Fold.{foldGates}
+use Rattle.circuit.specs.Valuation.{Ordered, Solves}
+use Rattle.circuit.specs.Evaluation.{evaluate}
+use Rattle.circuit.specs.Depth.{depth, circuitDepth}
+use Rattle.circuit.specs.Path.{isGate, isPath, andsOn}
+use Rattle.circuit.specs.ReverseDepth.{isLive, above}
+use Rattle.circuit.specs.Critical.{criticalCount}
+use Rattle.circuit.specs.Trim.{renameGate, rank, isKept, trimOf}
+use Rattle.circuit.specs.EvaluateCall.{evaluating}
+use Rattle.circuit.specs.MeasureCall.{measuring}
+
+-- ---- tables
+
+-- A table is well formed exactly if it is not refused.
+abbrev pub AcceptedIsWellFormed : Type 0
+AcceptedIsWellFormed = (t : List ℕ) → (refusal t ≡ 0) ↔ WellFormed t
+
+-- A circuit's table says the circuit.
+abbrev pub DecodeAfterEncode : Type 0
+DecodeAfterEncode = (c : Circuit) → decode (encode c) ≡ c
+
+-- A well-formed table is the table of what it says.
+abbrev pub EncodeAfterDecode : Type 0
+EncodeAfterDecode = (t : List ℕ) → WellFormed t → encode (decode t) ≡ t
+
+-- ---- values, over any carrier
+
+-- The fold behind a start list for the references below n gives each gate what `op` gives for its operands' values.
+abbrev pub FoldSolves : Type 1
+FoldSolves =
+    (A : Type 0) (op : ℕ → A → A → A) (z : A) (gs : List Gate) (start : List A) (n : ℕ) → length start ≡ n → Ordered n gs
+    → Solves op (λ r. getD (foldGates op z gs start) r z) n gs
+
+-- And it keeps the start list.
+abbrev pub FoldKeepsStart : Type 1
+FoldKeepsStart =
+    (A : Type 0) (op : ℕ → A → A → A) (z : A) (gs : List Gate) (start : List A)
+    → (length (foldGates op z gs start) ≡ length start + length gs)
+    × ((r : ℕ) → r < length start → getD (foldGates op z gs start) r z ≡ getD start r z)
+
+-- Two valuations agree along a renaming ρ on all wanted references, if they agree on those below the gates, wanted gates have wanted
+-- operands, and both give each wanted gate what `op` gives.
+abbrev pub Simulation : Type 1
+Simulation =
+    (A : Type 0) (op : ℕ → A → A → A) (Wanted : ℕ → Type 0) (ρ : ℕ → ℕ) (v v′ : ℕ → A) (n : ℕ) (gs : List Gate)
+    → Ordered n gs
+    → Solves op v n gs
+    → EachGate (λ m g. Wanted m → Wanted (g .left) × Wanted (g .right) × (v′ (ρ m) ≡ op (g .kind) (v′ (ρ (g .left))) (v′ (ρ (g .right))))) n gs
+    → ((r : ℕ) → r < n → Wanted r → v′ (ρ r) ≡ v r)
+    → (r : ℕ) → r < n + length gs → Wanted r → v′ (ρ r) ≡ v r
+
+-- The evaluator gives one byte, 0 or 1, an output.
+abbrev pub EvaluationGivesBits : Type 0
+EvaluationGivesBits =
+    (c : Circuit) (bytes : List ℕ)
+    → (length (evaluate c bytes) ≡ length (c .outputs)) × ((i : ℕ) → getD (evaluate c bytes) i 0 < 2)
+
+-- ---- paths
+
+-- A reference is live exactly if there is a path from it up to an output.
+abbrev pub LiveIsReached : Type 0
+LiveIsReached =
+    (t : List ℕ) → WellFormed t → (v : ℕ) → (isLive (decode t) v ≡ true) ↔ ((path : List ℕ) × (isPath (decode t) v path ≡ true))
+
+-- A live reference's `above` is the number of AND gates on some path, and no path has more.
+abbrev pub AboveIsLargest : Type 0
+AboveIsLargest =
+    (t : List ℕ) → WellFormed t → (v : ℕ) → isLive (decode t) v ≡ true
+    → ((path : List ℕ) × (isPath (decode t) v path ≡ true) × (andsOn (decode t) path ≡ above (decode t) v))
+    × ((path : List ℕ) → isPath (decode t) v path ≡ true → andsOn (decode t) path ≤ above (decode t) v)
+
+-- ---- trimming
+
+-- The trimmed table of a well-formed table is well formed.
+abbrev pub TrimmedIsWellFormed : Type 0
+TrimmedIsWellFormed = (t : List ℕ) → WellFormed t → WellFormed (trimOf t)
+
+-- It has as many inputs and outputs, and no more gates.
+abbrev pub TrimKeepsCounts : Type 0
+TrimKeepsCounts =
+    (t : List ℕ) → WellFormed t → (inputs (trimOf t) ≡ inputs t) × (outputs (trimOf t) ≡ outputs t) × (gates (trimOf t) ≤ gates t)
+
+-- Its gates are the live ones, as many as there are, each in the place of its new number with its operands renumbered.
+abbrev pub TrimKeepsGates : Type 0
+TrimKeepsGates =
+    (t : List ℕ) → WellFormed t
+    → (gates (trimOf t) ≡ countGates (λ v g. isLive (decode t) v) (firstGate (inputs t)) (gateLines t))
+    × ((v : ℕ) → isGate (decode t) v ≡ true → isLive (decode t) v ≡ true
+    → gateAt (decode (trimOf t)) (rank (isKept (decode t)) v) ≡ renameGate (rank (isKept (decode t))) (gateAt (decode t) v))
+
+-- It gives the same outputs on every input.
+abbrev pub TrimKeepsOutputs : Type 0
+TrimKeepsOutputs =
+    (t : List ℕ) → WellFormed t → (bytes : List ℕ) → length bytes ≡ inputs t
+    → evaluate (decode (trimOf t)) bytes ≡ evaluate (decode t) bytes
+
+-- It has the same D.
+abbrev pub TrimKeepsDepth : Type 0
+TrimKeepsDepth = (t : List ℕ) → WellFormed t → circuitDepth (decode (trimOf t)) ≡ circuitDepth (decode t)
+
+-- It has the same N.
+abbrev pub TrimKeepsCriticalCount : Type 0
+TrimKeepsCriticalCount = (t : List ℕ) → WellFormed t → criticalCount (decode (trimOf t)) ≡ criticalCount (decode t)
+
+-- Every reference that is kept, so every live one, has the depth and the above that it had, under its new number, and is live if it was.
+abbrev pub TrimKeepsDepths : Type 0
+TrimKeepsDepths =
+    (t : List ℕ) → WellFormed t → (v : ℕ) → v < refs t → isKept (decode t) v ≡ true
+    → (depth (decode (trimOf t)) (rank (isKept (decode t)) v) ≡ depth (decode t) v)
+    × (above (decode (trimOf t)) (rank (isKept (decode t)) v) ≡ above (decode t) v)
+    × (isLive (decode (trimOf t)) (rank (isKept (decode t)) v) ≡ isLive (decode t) v)
+
+-- Every gate of a trimmed circuit is live.
+abbrev pub TrimmedIsLive : Type 0
+TrimmedIsLive =
+    (t : List ℕ) → WellFormed t → (i : ℕ) → i < gates (trimOf t)
+    → isLive (decode (trimOf t)) (firstGate (inputs (trimOf t)) + i) ≡ true
+
+-- Trimming twice is trimming once.
+abbrev pub TrimOfTrim : Type 0
+TrimOfTrim = (t : List ℕ) → WellFormed t → trimOf (trimOf t) ≡ trimOf t
+
+-- The calls answer for the trimmed table as for the table itself.
+abbrev pub TrimKeepsCalls : Type 0
+TrimKeepsCalls =
+    (t : List ℕ) → WellFormed t
+    → ((inputBytes outputBytes : List ℕ) → evaluating (trimOf t) inputBytes outputBytes ≡ evaluating t inputBytes outputBytes)
+    × (measuring (trimOf t) ≡ measuring t)

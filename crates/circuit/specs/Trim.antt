@@ -1,0 +1,45 @@
+-- 01, Circuits, 8: trimming takes the dead gates out; the others keep their order and are renumbered. That live is 01's: `LiveIsReached`
+-- in Theorems.antt.
+use Prim.Native.Nat.{ℕ, zero, suc, _+_}
+use mathlib.Core.Bool.{Bool, _||_}
+use mathlib.Core.List.{List, [], _∷_, _++_, map}
+use lib.Dec.{ltb}
+use Rattle.lists.specs.First.{first}
+use Rattle.circuit.specs.Circuit.{Gate, Circuit, firstGate}
+use Rattle.circuit.specs.Table.{decode, encode}
+use Rattle.circuit.specs.ReverseDepth.{isLive}
+
+-- a gate with its operands renamed
+abbrev pub renameGate : (ℕ → ℕ) → Gate → Gate
+renameGate ρ g = record { kind = g .kind; left = ρ (g .left); right = ρ (g .right) }
+
+-- how many references below v are kept: the new number of v
+unfoldable pub rank : (kept : ℕ → Bool) → (v : ℕ) → ℕ
+rank kept zero = 0
+rank kept (suc v) = first (kept v) (rank kept v + 1) (rank kept v)
+
+-- the new numbers of the first n references
+unfoldable pub ranks : (kept : ℕ → Bool) → (n : ℕ) → List ℕ
+ranks kept zero = []
+ranks kept (suc n) = ranks kept n ++ (rank kept n ∷ [])
+
+-- the gates that are kept, renumbered; the first of the list is reference n
+unfoldable pub keepGates : (kept : ℕ → Bool) → (n : ℕ) → List Gate → List Gate
+keepGates kept n [] = []
+keepGates kept n (g ∷ gs) = first (kept n) (renameGate (rank kept) g ∷ keepGates kept (suc n) gs) (keepGates kept (suc n) gs)
+
+-- which references stay: the constants and inputs, and of the gates those that are live
+abbrev pub isKept : Circuit → (v : ℕ) → Bool
+isKept c v = ltb v (firstGate (c .inputs)) || isLive c v
+
+unfoldable pub trim : Circuit → Circuit
+trim c =
+    record {
+      inputs = c .inputs;
+      gates = keepGates (isKept c) (firstGate (c .inputs)) (c .gates);
+      outputs = map (rank (isKept c)) (c .outputs);
+    }
+
+-- the table of the trimmed circuit
+abbrev pub trimOf : List ℕ → List ℕ
+trimOf t = encode (trim (decode t))

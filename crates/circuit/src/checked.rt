@@ -1,0 +1,108 @@
+// What crates of this repository call: the check of a table, and work on tables that it has let pass. A `requires` here is asked by the
+// prover of every caller, and no other language reaches these functions.
+ghost use mathlib.Core.Path.{_≡_};
+ghost use Prim.Native.Nat.{_≤_};
+ghost use lib.ListN.{length};
+ghost use Rattle.lines.specs.Calls.{over};
+ghost use Rattle.circuit.specs.Critical.{criticalCount};
+ghost use Rattle.circuit.specs.Depth.{depths, circuitDepth};
+ghost use Rattle.circuit.specs.Refusal.{refusal};
+ghost use Rattle.circuit.specs.ReverseDepth.{reverseDepths};
+ghost use Rattle.circuit.specs.Table.{refs, tableEnd, decode};
+ghost use Rattle.circuit.specs.Trim.{trimOf};
+ghost use Rattle.circuit.specs.WellFormed.{WellFormed};
+use crate::checking::closing_kinds_ok;
+use crate::checking::closing_references_ok;
+use crate::checking::gate_kinds_ok;
+use crate::checking::head_in_limits;
+use crate::checking::is_partial;
+use crate::checking::lines_as_head_says;
+use crate::checking::operands_ok;
+use crate::critical::count_critical;
+use crate::depth::append_depths;
+use crate::depth::clear;
+use crate::depth::output_depth;
+use crate::reverse_depth::mark_outputs;
+use crate::reverse_depth::raise_gates;
+use crate::table::MAX_REFERENCES;
+use crate::trimming::rank_references;
+use crate::trimming::write_trimmed;
+
+// 01's pair (D, N): the depth and the critical count.
+pub struct DepthPair {
+    pub depth: u32,
+    pub critical: u32,
+}
+
+// The number of the first refusal that applies to the table, or 0.
+pub fn refusal(t: &[u32]) -> u32
+    ensures { λ r. ⌜ r ≡ refusal (now (t .entry)) ⌝ }
+{
+    if is_partial(t) {
+        return 1;
+    }
+    if !head_in_limits(t) {
+        return 4;
+    }
+    if !lines_as_head_says(t) {
+        return 5;
+    }
+    if !(gate_kinds_ok(t) & closing_kinds_ok(t)) {
+        return 6;
+    }
+    if !(operands_ok(t) & closing_references_ok(t)) {
+        return 7;
+    }
+    0
+}
+
+// The depth of every reference, over the front of d.
+pub fn depths(t: &[u32], d: &mut [u32])
+    requires { ⌜ WellFormed (now t) ⌝ }
+    requires { ⌜ refs (now t) ≤ length (now d) ⌝ }
+    ensures { λ _. ⌜ now (d .exit) ≡ over (depths (decode (now (t .entry)))) (now (d .entry)) ⌝ }
+{
+    clear(d, t[0] as usize + 2);
+    append_depths(t, d);
+}
+
+// The reverse depth of every reference, over the front of d.
+pub fn reverse_depths(t: &[u32], d: &mut [u32])
+    requires { ⌜ WellFormed (now t) ⌝ }
+    requires { ⌜ refs (now t) ≤ length (now d) ⌝ }
+    ensures { λ _. ⌜ now (d .exit) ≡ over (reverseDepths (decode (now (t .entry)))) (now (d .entry)) ⌝ }
+{
+    clear(d, t[0] as usize + 2 + t[1] as usize);
+    mark_outputs(t, d);
+    raise_gates(t, d);
+}
+
+// The circuit's pair, dead gates counting nowhere.
+pub fn pair(t: &[u32]) -> DepthPair
+    requires { ⌜ WellFormed (now t) ⌝ }
+    ensures { λ r. ⌜ r ≡ record { depth = circuitDepth (decode (now (t .entry))); critical = criticalCount (decode (now (t .entry))) } ⌝ }
+{
+    let mut d = [0u32; MAX_REFERENCES];
+    depths(t, &mut d);
+    let mut u = [0u32; MAX_REFERENCES];
+    reverse_depths(t, &mut u);
+    let deepest = output_depth(t, &d);
+    let count = count_critical(t, &d, &u, deepest);
+    DepthPair {
+        depth: deepest,
+        critical: count,
+    }
+}
+
+// The trimmed table, over the front of out. It is no longer than the table itself.
+pub fn trim(t: &[u32], out: &mut [u32])
+    requires { ⌜ WellFormed (now t) ⌝ }
+    requires { ⌜ tableEnd (now t) ≤ length (now out) ⌝ }
+    ensures { λ _. ⌜ now (out .exit) ≡ over (trimOf (now (t .entry))) (now (out .entry)) ⌝ }
+{
+    let mut u = [0u32; MAX_REFERENCES];
+    reverse_depths(t, &mut u);
+    let mut names = [0u32; MAX_REFERENCES];
+    let kept = rank_references(t, &u, &mut names);
+    write_trimmed(t, &u, &names, kept, out);
+}

@@ -1,0 +1,79 @@
+// Depths of references, and the depth of a circuit (01, Depth and critical count, 1 and 2).
+ghost use mathlib.Core.Path.{_≡_};
+ghost use Prim.Native.Nat.{_+_, _≤_, max};
+ghost use lib.ListN.{length, take, replicate};
+ghost use Rattle.lines.specs.Calls.{over};
+ghost use Rattle.circuit.specs.Circuit.{maxGates, firstGate};
+ghost use Rattle.circuit.specs.Table.{inputs, refs, decode};
+ghost use Rattle.circuit.specs.WellFormed.{WellFormed};
+ghost use Rattle.circuit.specs.Depth.{plusAnd, depthOp, startDepths, depths, circuitDepth};
+use crate::table::AND;
+use crate::table::gate_kind;
+use crate::table::gate_left;
+use crate::table::gate_right;
+use crate::table::output_reference;
+
+pub fn larger(a: u32, b: u32) -> u32
+    ensures { λ r. ⌜ r ≡ max a b ⌝ }
+{
+    if a < b { b } else { a }
+}
+
+// One more for an AND. Depths are at most the number of gates, reverse depths one more than that.
+pub fn plus_and(kind: u32, x: u32) -> u32
+    requires { ⌜ x ≤ maxGates + 1 ⌝ }
+    ensures { λ r. ⌜ r ≡ plusAnd kind x ⌝ }
+{
+    if kind == AND { x + 1 } else { x }
+}
+
+// A gate's depth, from those of its operands.
+fn gate_depth(kind: u32, a: u32, b: u32) -> u32
+    requires { ⌜ a ≤ maxGates ⌝ }
+    requires { ⌜ b ≤ maxGates ⌝ }
+    ensures { λ r. ⌜ r ≡ depthOp kind a b ⌝ }
+{
+    plus_and(kind, larger(a, b))
+}
+
+// Zeros in the first n places.
+pub fn clear(d: &mut [u32], n: usize)
+    requires { ⌜ n ≤ length (now d) ⌝ }
+    ensures { λ _. ⌜ now (d .exit) ≡ over (replicate n 0) (now (d .entry)) ⌝ }
+{
+    for i in 0..n {
+        d[i] = 0;
+    }
+}
+
+// The depths of the gates, behind those of the constants and inputs.
+pub fn append_depths(t: &[u32], d: &mut [u32])
+    requires { ⌜ WellFormed (now t) ⌝ }
+    requires { ⌜ refs (now t) ≤ length (now d) ⌝ }
+    requires { ⌜ take (firstGate (inputs (now t))) (now d) ≡ startDepths (inputs (now t)) ⌝ }
+    ensures { λ _. ⌜ now (d .exit) ≡ over (depths (decode (now (t .entry)))) (now (d .entry)) ⌝ }
+{
+    let first = t[0] as usize + 2;
+    let gates = t[1] as usize;
+    for i in 0..gates {
+        let left = gate_left(t, i);
+        let right = gate_right(t, i);
+        d[first + i] = gate_depth(gate_kind(t, i), d[left], d[right]);
+    }
+}
+
+// The largest depth of an output, where d begins with the depths.
+pub fn output_depth(t: &[u32], d: &[u32]) -> u32
+    requires { ⌜ WellFormed (now t) ⌝ }
+    requires { ⌜ refs (now t) ≤ length (now d) ⌝ }
+    requires { ⌜ take (refs (now t)) (now d) ≡ depths (decode (now t)) ⌝ }
+    ensures { λ r. ⌜ r ≡ circuitDepth (decode (now (t .entry))) ⌝ }
+{
+    let outputs = t[2] as usize;
+    let mut deepest: u32 = 0;
+    for i in 0..outputs {
+        let reference = output_reference(t, i);
+        deepest = larger(deepest, d[reference]);
+    }
+    deepest
+}
