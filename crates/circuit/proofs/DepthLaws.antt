@@ -15,7 +15,8 @@ use Rattle.circuit.proofs.TableLaws.{gate-step, gates-length, output-st
 use Rattle.circuit.proofs.RefusalLaws.{left-below, right-below, output-below}
 use Rattle.circuit.proofs.BoundLaws.{depth-le, depths-length}
 use Rattle.circuit.proofs.LoopLaws.{value-read, largest-more, largest-end}
-use Rattle.circuit.proofs.BufferLaws.{FilledOver, filled-over-none, filled-over-more, filled-over-read, filled-over-all, over-take, over-over}
+use Rattle.lists.proofs.Each.{FilledOver, filled-over-none, filled-over-more, filled-over-read, filled-over-all}
+use Rattle.circuit.proofs.BufferLaws.{over-take, over-over}
 
 -- the depths of the first i gates are there, behind those of the constants and inputs
 abbrev pub DepthsTo : (t d₀ d : List ℕ) (i : ℕ) → Type 0

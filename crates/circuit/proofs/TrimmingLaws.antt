@@ -8,9 +8,10 @@ use native.Mathlib.Numerals.{add-one}
 use native.Mathlib.Omega.{arith}
 use lib.Dec.{ltb}
 use lib.ListN.{length, take, drop, getD, set, length-append, length-map}
-use lib.Seq.{sets, length-sets, take-at}
+use lib.Seq.{sets, take-at}
 use borrow.Author.Tests.{lt-ltb, le-ltb}
-use Rattle.lists.proofs.Stores.{add-two, add-three, sets-append, sets-behind}
+use Rattle.lists.proofs.Stores.{add-two, sets-append, sets-behind}
+use Rattle.lists.proofs.Appended.{Appended, appended-none, appended-more, appended-same, appended-all}
 use Rattle.lists.proofs.Written.{Written, written-none, written-more, written-all}
 use Rattle.lines.specs.Calls.{over}
 use Rattle.circuit.specs.Circuit.{closingKind, firstGate}
@@ -75,50 +76,22 @@ gate-stores t names d d′ at i kind l r k p q e =
     e ∙ ap (λ x. sets d at (x ∷ getD names l 0 ∷ getD names r 0 ∷ [])) k
     ∙ ap₂ (λ x y. sets d at (getD t (gatesFrom t + 3 * i) 0 ∷ getD names x 0 ∷ getD names y 0 ∷ [])) p q
 
--- `rest` is still to be stored, from place `at` on, of `total`, which begins at `from`
-pub record Storing (total d₀ : List ℕ) (from : ℕ) (rest d : List ℕ) (at : ℕ) : Type 0 where
-  pub stores : sets d at rest ≡ sets d₀ from total
-  pub place : at + length rest ≡ from + length total
-  pub long : length d ≡ length d₀
-
-module _ (total d₀ : List ℕ) (from : ℕ) where
-  pub storing-none : (rest : List ℕ) (at : ℕ) → rest ≡ total → at ≡ from → Storing total d₀ from rest d₀ at
-  storing-none rest at e q =
-      record { stores = ap₂ (λ k r. sets d₀ k r) q e; place = ap₂ (λ k r. k + length r) q e; long = refl }
-
-  module _ (rest d : List ℕ) (at : ℕ) (s : Storing total d₀ from rest d at) where
-    pub storing-line : (rest′ d′ : List ℕ) (at′ a b c : ℕ) → rest ≡ a ∷ b ∷ c ∷ rest′ → d′ ≡ sets d at (a ∷ b ∷ c ∷ []) → at′ ≡ at + 3
-        → Storing total d₀ from rest′ d′ at′
-    storing-line rest′ d′ at′ a b c e f q =
-        record {
-          stores = ap₂ (λ x k. sets x k rest′) f (q ∙ add-three at) ∙ sym (ap (sets d at) e) ∙ s .stores;
-          place = omega (arith, s .place, ap length e);
-          long = ap length f ∙ length-sets d at (a ∷ b ∷ c ∷ []) ∙ s .long;
-        }
-
-    pub storing-same : (rest′ : List ℕ) → rest ≡ rest′ → Storing total d₀ from rest′ d at
-    storing-same rest′ e =
-        record { stores = ap (sets d at) (sym e) ∙ s .stores; place = ap (λ r. at + length r) (sym e) ∙ s .place; long = s .long }
-
-    pub storing-all : rest ≡ [] → (d ≡ sets d₀ from total) × (at ≡ from + length total)
-    storing-all e = (sym (ap (sets d at) e) ∙ s .stores, omega (arith, s .place, ap length e))
-
 -- ---- the gate lines, up to gate i
 
 abbrev pub GatesTo : (t d₀ d : List ℕ) (at i : ℕ) → Type 0
 GatesTo t d₀ d at i =
-    Storing (encodeLines (keepGates (isKept (decode t)) (firstGate (inputs t)) (gateLines t))) d₀ (gatesFrom t)
+    Appended (encodeLines (keepGates (isKept (decode t)) (firstGate (inputs t)) (gateLines t))) d₀ (gatesFrom t)
     (encodeLines (keepGates (isKept (decode t)) (firstGate (inputs t) + i) (drop i (gateLines t)))) d at
 
 module _ (t d₀ : List ℕ) where
   pub gates-none : (at : ℕ) → at ≡ gatesFrom t → GatesTo t d₀ d₀ at 0
-  gates-none at q = storing-none _ d₀ (gatesFrom t) _ at (ap (λ k. encodeLines (keepGates (isKept (decode t)) k (gateLines t))) (add-zero (firstGate (inputs t)))) q
+  gates-none at q = appended-none _ d₀ (gatesFrom t) _ at (ap (λ k. encodeLines (keepGates (isKept (decode t)) k (gateLines t))) (add-zero (firstGate (inputs t)))) q
 
   module _ (d : List ℕ) (at i : ℕ) (s : GatesTo t d₀ d at i) where
     pub gates-all : gates t ≤ i
         → (d ≡ sets d₀ (gatesFrom t) (encodeLines (keepGates (isKept (decode t)) (firstGate (inputs t)) (gateLines t))))
         × (at ≡ gatesFrom t + length (encodeLines (keepGates (isKept (decode t)) (firstGate (inputs t)) (gateLines t))))
-    gates-all h = storing-all _ d₀ (gatesFrom t) _ d at s (append-gates-end (isKept (decode t)) (firstGate (inputs t)) (gateLines t) i (omega (arith, gates-length t)))
+    gates-all h = appended-all _ d₀ (gatesFrom t) _ d at s (append-gates-end (isKept (decode t)) (firstGate (inputs t)) (gateLines t) i (omega (arith, gates-length t)))
 
     module _ (w : WellFormed t) (u : List ℕ) (e : take (refs t) u ≡ reverseDepths (decode t)) (h : i < gates t) where
       pub gates-kept : (names : List ℕ) → take (refs t) names ≡ ranks (isKept (decode t)) (refs t) → 0 < getD u (firstGate (inputs t) + i) 0
@@ -131,30 +104,30 @@ module _ (t d₀ : List ℕ) where
           let a = rank-read kept (refs t) names (g .left) n (omega (arith, left-below t w i h)) in
           let b = rank-read kept (refs t) names (g .right) n (omega (arith, right-below t w i h)) in
           let k = sym (gate-kept-read t u e i h) ∙ lt-ltb 0 (getD u (firstGate (inputs t) + i) 0) l in
-          storing-line _ d₀ (gatesFrom t) _ d at s _ d′ (at + 3) (g .kind) (rank kept (g .left)) (rank kept (g .right))
+          appended-more _ d₀ (gatesFrom t) _ d at s (g .kind ∷ rank kept (g .left) ∷ rank kept (g .right) ∷ []) _ d′ (at + 3)
           (append-kept kept (firstGate (inputs t)) (gateLines t) i g (gate-step t i h) k)
           (f ∙ ap₂ (λ x y. sets d at (g .kind ∷ x ∷ y ∷ [])) a b) refl
 
       pub gates-gone : getD u (firstGate (inputs t) + i) 0 ≤ 0 → GatesTo t d₀ d at (i + 1)
       gates-gone l =
           let k = sym (gate-kept-read t u e i h) ∙ le-ltb 0 (getD u (firstGate (inputs t) + i) 0) l in
-          storing-same _ d₀ (gatesFrom t) _ d at s _ (append-gone (isKept (decode t)) (firstGate (inputs t)) (gateLines t) i _ (gate-step t i h) k)
+          appended-same _ d₀ (gatesFrom t) _ d at s _ (append-gone (isKept (decode t)) (firstGate (inputs t)) (gateLines t) i _ (gate-step t i h) k)
 
 -- ---- the closing lines, up to output i
 
 abbrev pub ClosingsTo : (t d₀ d : List ℕ) (from i : ℕ) → Type 0
 ClosingsTo t d₀ d from i =
-    Storing (encodeLines (map closingLine (map (rank (isKept (decode t))) (decode t .outputs)))) d₀ from
+    Appended (encodeLines (map closingLine (map (rank (isKept (decode t))) (decode t .outputs)))) d₀ from
     (encodeLines (map closingLine (map (rank (isKept (decode t))) (drop i (decode t .outputs))))) d (from + 3 * i)
 
 module _ (t d₀ : List ℕ) (from : ℕ) where
   pub closings-none : ClosingsTo t d₀ d₀ from 0
-  closings-none = storing-none _ d₀ from _ (from + 3 * 0) refl (omega arith)
+  closings-none = appended-none _ d₀ from _ (from + 3 * 0) refl (omega arith)
 
   module _ (d : List ℕ) (i : ℕ) (s : ClosingsTo t d₀ d from i) where
     pub closings-all : outputs t ≤ i → d ≡ sets d₀ from (encodeLines (map closingLine (map (rank (isKept (decode t))) (decode t .outputs))))
     closings-all h =
-        storing-all _ d₀ from _ d (from + 3 * i) s (append-closings-end (rank (isKept (decode t))) (decode t .outputs) i (omega (arith, outputs-length t))) .0
+        appended-all _ d₀ from _ d (from + 3 * i) s (append-closings-end (rank (isKept (decode t))) (decode t .outputs) i (omega (arith, outputs-length t))) .0
 
     pub closings-more : WellFormed t → i < outputs t → (names : List ℕ) → take (refs t) names ≡ ranks (isKept (decode t)) (refs t)
         → (o : ℕ) → o ≡ getD t (closingsFrom t + 3 * i + 1) 0
@@ -162,7 +135,7 @@ module _ (t d₀ : List ℕ) (from : ℕ) where
     closings-more w h names n o p d′ f =
         let kept = isKept (decode t) in
         let a = rank-read kept (refs t) names o n (omega (arith, output-below t w i h)) in
-        storing-line _ d₀ from _ d (from + 3 * i) s _ d′ (from + 3 * (i + 1)) closingKind (rank kept o) 0
+        appended-more _ d₀ from _ d (from + 3 * i) s (closingKind ∷ rank kept o ∷ 0 ∷ []) _ d′ (from + 3 * (i + 1))
         (append-closing (rank kept) (decode t .outputs) i o (output-step t i h ∙ ap (λ x. x ∷ drop (i + 1) (decode t .outputs)) (sym p)))
         (f ∙ ap (λ x. sets d (from + 3 * i) (closingKind ∷ x ∷ 0 ∷ [])) a) (omega arith)
 

@@ -80,12 +80,6 @@ module _ (size : ℕ) (test : List ℕ → Bool) (source : List ℕ) where
         right = rw (← k .2) (k .1);
       }
 
-  pub is-valid : (n : ℕ) → Valid size test source n → validation size test source ≡ gives (n ∷ [])
-  unfolding validation
-  is-valid n v =
-      let r : allRecords test size (length source / size) source ≡ true = rw (← v .whole .count) (v .right) in
-      rw (v .not-partial, r, ← v .whole .count)
-
 -- ---- what a conversion gives, by its validation
 
 -- the chain of refusals, over its three tests and its success
