@@ -33,12 +33,12 @@ encode-length [] = refl
 encode-length (g ∷ gs) = omega (arith, encode-length gs)
 
 -- lines that were encoded are the lines of what begins so
-lines-encode : (gs : List Gate) (rest : List ℕ) → linesOf (length gs) (encodeLines gs ++ rest) ≡ gs
+pub lines-encode : (gs : List Gate) (rest : List ℕ) → linesOf (length gs) (encodeLines gs ++ rest) ≡ gs
 unfolding linesOf encodeLines
 lines-encode [] rest = refl
 lines-encode (g ∷ gs) rest = ap (λ l. g ∷ l) (lines-encode gs rest)
 
-encode-lines : (n : ℕ) (t : List ℕ) → 3 * n ≤ length t → encodeLines (linesOf n t) ≡ take (3 * n) t
+pub encode-lines : (n : ℕ) (t : List ℕ) → 3 * n ≤ length t → encodeLines (linesOf n t) ≡ take (3 * n) t
 unfolding linesOf encodeLines
 encode-lines zero t h = refl
 encode-lines (suc n) t h = ap (λ l. getD t 0 0 ∷ getD t 1 0 ∷ getD t 2 0 ∷ l) (encode-lines n (drop 3 t) (omega (arith, length-drop 3 t))) ∙ sym (taken t (omega arith))
@@ -104,7 +104,7 @@ decode-after-encode c =
     ap₂ (λ g o. record { inputs = c .inputs; gates = g; outputs = o }) (encode-gate-lines c) (ap (map reference) (encode-closing-lines c) ∙ map-closing (c .outputs))
 
 -- a table of at least one line, by its head and the rest
-headed : (t : List ℕ) → 3 ≤ length t → getD t 0 0 ∷ getD t 1 0 ∷ getD t 2 0 ∷ drop 3 t ≡ t
+pub headed : (t : List ℕ) → 3 ≤ length t → getD t 0 0 ∷ getD t 1 0 ∷ getD t 2 0 ∷ drop 3 t ≡ t
 headed [] h = absurd (not-suc-le-zero h)
 headed (a ∷ []) h = let z : ⊥ = omega arith in absurd z
 headed (a ∷ b ∷ []) h = let z : ⊥ = omega arith in absurd z

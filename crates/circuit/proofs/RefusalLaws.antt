@@ -21,11 +21,11 @@ use Rattle.circuit.proofs.TableLaws.{gate-step, closing-step}
 use Rattle.circuit.proofs.EachLaws.{all-at}
 
 -- a chain of refusals that gives 0: its first test doesn't apply
-passed : (b : Bool) (x y : ℕ) → first b (suc x) y ≡ 0 → (b ≡ false) × (y ≡ 0)
+pub passed : (b : Bool) (x y : ℕ) → first b (suc x) y ≡ 0 → (b ≡ false) × (y ≡ 0)
 passed true x y e = let z : ⊥ = omega arith in absurd z
 passed false x y e = (refl, e)
 
-either : (k : ℕ) → (eqb k xorKind || eqb k andKind) ≡ true → (k ≡ xorKind) ⊎ (k ≡ andKind)
+pub either : (k : ℕ) → (eqb k xorKind || eqb k andKind) ≡ true → (k ≡ xorKind) ⊎ (k ≡ andKind)
 either k e = go (eqb k xorKind) refl
   where
     go : (b : Bool) → eqb k xorKind ≡ b → (k ≡ xorKind) ⊎ (k ≡ andKind)

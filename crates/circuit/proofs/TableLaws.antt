@@ -11,7 +11,7 @@ use Rattle.lists.proofs.Maps.{map-drop, map-step}
 use Rattle.circuit.specs.Circuit.{references}
 use Rattle.circuit.specs.Table.{gates, outputs, refs, gatesFrom, closingsFrom, lineAt, linesOf, gateLines, closingLines, reference, decode}
 
-line-drop : (k p : ℕ) (t : List ℕ) → lineAt (drop k t) p ≡ lineAt t (k + p)
+pub line-drop : (k p : ℕ) (t : List ℕ) → lineAt (drop k t) p ≡ lineAt t (k + p)
 line-drop k p t =
     let e1 : k + (p + 1) ≡ k + p + 1 = omega arith in
     let e2 : k + (p + 2) ≡ k + p + 2 = omega arith in
@@ -31,7 +31,7 @@ line-step (suc n) t (suc i) h =
     line-step n (drop 3 t) i (le-of-suc-le-suc h) ∙ ap (λ l. l ∷ drop (suc i) (linesOf n (drop 3 t))) (line-drop 3 (3 * i) t ∙ ap (lineAt t) e)
 
 -- line i of those that begin at place p
-step-from : (p n : ℕ) (t : List ℕ) (i : ℕ) → i < n → drop i (linesOf n (drop p t)) ≡ lineAt t (p + 3 * i) ∷ drop (i + 1) (linesOf n (drop p t))
+pub step-from : (p n : ℕ) (t : List ℕ) (i : ℕ) → i < n → drop i (linesOf n (drop p t)) ≡ lineAt t (p + 3 * i) ∷ drop (i + 1) (linesOf n (drop p t))
 step-from p n t i h = line-step n (drop p t) i h ∙ ap₂ _∷_ (line-drop p (3 * i) t) (rw add-one)
 
 module _ (t : List ℕ) where

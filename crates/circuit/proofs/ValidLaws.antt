@@ -42,14 +42,14 @@ pub among-tail : (x o : ℕ) (os : List ℕ) → isAmong x os ≡ true → isAmo
 unfolding isAmong
 among-tail x o os e = rw (e, or-true)
 
-ordered-of : (n : ℕ) (gs : List Gate) → EachGate (λ m g. operandsBelow m g ≡ true) n gs → Ordered n gs
+pub ordered-of : (n : ℕ) (gs : List Gate) → EachGate (λ m g. operandsBelow m g ≡ true) n gs → Ordered n gs
 ordered-of n gs a =
     each-map n gs a (λ m g h e. (
       ltb-true (g .left) m (left-of (ltb (g .left) m) (ltb (g .right) m) e),
       ltb-true (g .right) m (right-of (ltb (g .left) m) (ltb (g .right) m) e),
     ))
 
-of-ordered : (n : ℕ) (gs : List Gate) → Ordered n gs → EachGate (λ m g. operandsBelow m g ≡ true) n gs
+pub of-ordered : (n : ℕ) (gs : List Gate) → Ordered n gs → EachGate (λ m g. operandsBelow m g ≡ true) n gs
 of-ordered n gs a =
     each-map n gs a (λ m g h l. both {a = ltb (g .left) m} {b = ltb (g .right) m} (lt-ltb (g .left) m (l .0)) (lt-ltb (g .right) m (l .1)))
 

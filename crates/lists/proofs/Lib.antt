@@ -7,3 +7,4 @@ pub mod Each
 pub mod Written
 pub mod Appended
 pub mod Maps
+pub mod Below

@@ -1,0 +1,16 @@
+pub mod WalkLaws
+pub mod LineLaws
+pub mod UseLaws
+pub mod RefusalLaws
+pub mod SiteLaws
+pub mod WordLaws
+pub mod SoundnessLaws
+pub mod SideLaws
+pub mod MatchLaws
+pub mod VerdictLaws
+pub mod SubstitutionLaws
+pub mod ValueLaws
+pub mod CodingLaws
+pub mod FindingLaws
+pub mod VerdictTheorems
+pub mod CallLaws

@@ -1,0 +1,70 @@
+-- Whether a reference is used: loops that look for it, and that it is used by later gates only. Assumes nothing.
+use mathlib.Core.Path.{_≡_, refl, sym, ap, ap₂, _∙_}
+use mathlib.Core.Bool.{true, false, _||_}
+use mathlib.Core.List.{List, [], _∷_}
+use Prim.Native.Nat.{ℕ, zero, suc, _+_, _-_, _≤_, _<_}
+use native.Mathlib.Decide.{decLt}
+use native.Mathlib.Omega.{arith}
+use lib.Dec.{ltb}
+use lib.ListN.{length, drop, drop-of-length-le}
+use borrow.Author.Tests.{ltb-true, ne-eqb}
+use Rattle.lists.proofs.Tests.{left-of, right-of}
+use Rattle.lists.proofs.Below.{below-at, below-of}
+use Rattle.circuit.specs.Circuit.{Gate, firstGate}
+use Rattle.circuit.specs.Each.{allGates}
+use Rattle.circuit.specs.Path.{isOperand}
+use Rattle.circuit.specs.Refusal.{operandsBelow}
+use Rattle.rules.specs.RuleRefusal.{isUsed}
+use Rattle.rules.specs.Theorems.{UseIsLater}
+
+-- A loop that looks for a user of r and has come to gate i: it is none, it is one, or there is none.
+module _ (r : ℕ) (gs : List Gate) (i : ℕ) (inv : isUsed r (drop i gs) ≡ isUsed r gs) where
+  pub used-pass : (g : Gate) → drop i gs ≡ g ∷ drop (i + 1) gs → isOperand r g ≡ false → isUsed r (drop (i + 1) gs) ≡ isUsed r gs
+  unfolding isUsed
+  used-pass g e off = rw (e, off) at inv
+
+  pub used-hit : (g : Gate) → drop i gs ≡ g ∷ drop (i + 1) gs → isOperand r g ≡ true → true ≡ isUsed r gs
+  unfolding isUsed
+  used-hit g e on = rw (e, on) at inv
+
+  pub used-end : length gs ≤ i → false ≡ isUsed r gs
+  unfolding isUsed
+  used-end h = rw (drop-of-length-le gs h) at inv
+
+-- a gate's operands lie below it
+not-used : (m r : ℕ) (g : Gate) → operandsBelow m g ≡ true → m ≤ r → isOperand r g ≡ false
+not-used m r g o h =
+    let a : g .left < m = ltb-true _ _ (left-of (ltb (g .left) m) (ltb (g .right) m) o) in
+    let b : g .right < m = ltb-true _ _ (right-of (ltb (g .left) m) (ltb (g .right) m) o) in
+    ap₂ _||_ (ne-eqb r (g .left) (λ e. omega arith)) (ne-eqb r (g .right) (λ e. omega arith))
+
+-- so the gates up to a reference don't use it
+pub used-later : (m : ℕ) (gs : List Gate) → allGates operandsBelow m gs ≡ true → (i r : ℕ) → m + i ≤ r + 1 → isUsed r (drop i gs) ≡ isUsed r gs
+unfolding allGates isUsed
+used-later m gs h zero r l = refl
+used-later m [] h (suc i) r l = refl
+used-later m (g ∷ gs) h (suc i) r l =
+    let o = left-of (operandsBelow m g) (allGates operandsBelow (suc m) gs) h in
+    let e : isOperand r g ≡ false = not-used m r g o (omega arith) in
+    used-later (suc m) gs (right-of (operandsBelow m g) (allGates operandsBelow (suc m) gs) h) i r (omega arith) ∙ sym (ap (λ b. b || isUsed r gs) e)
+
+pub use-is-later : UseIsLater
+use-is-later u some ok = (
+  λ h. (
+    λ j l. below-at (λ i. isUsed (i + 2) (u .lefts)) (u .holes + length (u .lefts) - 1) j h (omega arith),
+    λ i l.
+        let e : u .holes + i + 2 ≡ firstGate (u .holes) + i = omega arith in
+        later i ∙ ap (λ r. isUsed r (u .lefts)) (sym e) ∙ below-at (λ i. isUsed (i + 2) (u .lefts)) (u .holes + length (u .lefts) - 1) (u .holes + i) h (omega arith),
+  ),
+  λ p. below-of (λ i. isUsed (i + 2) (u .lefts)) (u .holes + length (u .lefts) - 1) (λ i l.
+      elim (decLt i (u .holes)) [
+        | yes k ↦ p .0 i k
+        | no k ↦
+            let e : i + 2 ≡ firstGate (u .holes) + (i - u .holes) = omega arith in
+            ap (λ r. isUsed r (u .lefts)) e ∙ sym (later (i - u .holes)) ∙ p .1 (i - u .holes) (omega arith)
+      ]),
+)
+  where
+    later : (i : ℕ) → isUsed (firstGate (u .holes) + i) (drop (i + 1) (u .lefts)) ≡ isUsed (firstGate (u .holes) + i) (u .lefts)
+    later i =
+        used-later (firstGate (u .holes)) (u .lefts) (left-of (allGates operandsBelow (firstGate (u .holes)) (u .lefts)) _ ok) (i + 1) (firstGate (u .holes) + i) (omega arith)

@@ -1,0 +1,13 @@
+pub mod Rule
+pub mod RuleTable
+pub mod RuleRefusal
+pub mod SiteTable
+pub mod WellFormed
+pub mod Soundness
+pub mod Words
+pub mod Match
+pub mod Substitution
+pub mod Verdict
+pub mod JudgeCall
+pub mod MatchCall
+pub mod Theorems

@@ -1,0 +1,62 @@
+-- 01, Sites, 4 to 8: the match of a rule's left side at a gate.
+-- A substitution is one list of bindings for all references of the left side: place r holds 0 where rule reference r is unbound, and
+-- 1 more than its circuit reference where it is bound.
+use Prim.Native.Nat.{ℕ, zero, suc, _+_, _-_}
+use mathlib.Core.Bool.{Bool, true, false, not}
+use mathlib.Core.List.{List, _∷_}
+use mathlib.Core.Option.{Option, none, some, bind}
+use lib.Dec.{eqb}
+use lib.ListN.{length, getD, set, replicate}
+use Rattle.lists.specs.First.{first}
+use Rattle.circuit.specs.Circuit.{Gate, Circuit, firstGate, noGate, gateAt}
+use Rattle.circuit.specs.Path.{isGate}
+use Rattle.rules.specs.Rule.{Rule, root, maxLeftReferences}
+use Rattle.rules.specs.Soundness.{bit}
+
+-- the circuit reference that rule reference r is bound to; that of an unbound one is 0, which is no gate
+abbrev pub boundTo : (bindings : List ℕ) (r : ℕ) → ℕ
+boundTo b r = getD b r 0 - 1
+
+-- 01, Sites, 8: rule reference r paired with circuit reference v. An unbound one becomes bound; a bound one needs the same reference.
+-- The constants are bound to themselves from the start, so that they need the same constant.
+unfoldable pub bindReference : (r v : ℕ) (bindings : List ℕ) → Option (List ℕ)
+bindReference r v b =
+    first (eqb (getD b r 0) 0) (some (set b r (v + 1)))
+    (first (eqb (getD b r 0) (v + 1)) (some b)
+    none)
+
+-- a rule gate's two operands, the left one first, paired with circuit references x and y
+unfoldable pub bindOperands : Gate → (x y : ℕ) (bindings : List ℕ) → Option (List ℕ)
+bindOperands g x y b = bind (bindReference (g .left) x b) (bindReference (g .right) y)
+
+-- 01, Sites, 6 and 7: one left gate's part of the match. Gate g, of rule reference m, must be bound to a circuit gate of its kind, and
+-- their operands are paired, crosswise if `swap`.
+unfoldable pub matchGate : Circuit → (m : ℕ) → Gate → (swap : Bool) (bindings : List ℕ) → Option (List ℕ)
+matchGate c m g swap b =
+    first (not (isGate c (boundTo b m))) none
+    (first (not (eqb (gateAt c (boundTo b m) .kind) (g .kind))) none
+    (first swap (bindOperands g (gateAt c (boundTo b m) .right) (gateAt c (boundTo b m) .left) b)
+    (bindOperands g (gateAt c (boundTo b m) .left) (gateAt c (boundTo b m) .right) b)))
+
+-- 01, Sites, 4: mask bit i belongs to left gate i.
+abbrev pub isSwapped : (mask i : ℕ) → Bool
+isSwapped mask i = eqb (bit i mask) 1
+
+-- 01, Sites, 6: the first i left gates, from the last of them to the first
+unfoldable pub matchGates : Circuit → Rule → (mask i : ℕ) (bindings : List ℕ) → Option (List ℕ)
+matchGates c u mask zero b = some b
+matchGates c u mask (suc i) b =
+    bind (matchGate c (firstGate (u .holes) + i) (getD (u .lefts) i noGate) (isSwapped mask i) b) (matchGates c u mask i)
+
+-- 01, Sites, 5: at the start the last left gate is bound to the site's gate; the constants are bound to themselves.
+abbrev pub startBindings : Rule → (gate : ℕ) → List ℕ
+startBindings u gate = set (1 ∷ 2 ∷ replicate (maxLeftReferences - 2) 0) (root u) (gate + 1)
+
+-- the match: its bindings, or none
+unfoldable pub matchRule : Circuit → Rule → (gate mask : ℕ) → Option (List ℕ)
+matchRule c u gate mask = matchGates c u mask (length (u .lefts)) (startBindings u gate)
+
+-- what a function says that answers whether it succeeded and leaves bindings, which are free where it did not
+abbrev pub attempt : (succeeded : Bool) (bindings : List ℕ) → Option (List ℕ)
+attempt true b = some b
+attempt false b = none
