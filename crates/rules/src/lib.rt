@@ -1,5 +1,17 @@
 // Rules and sites as tables of three numbers a line: their checks, the judge and the match (01, Rules; Sites).
+ghost use mathlib.Core.Path.{_≡_};
+ghost use Rattle.rules.specs.JudgeCall.{judging, paperValues as judgedValues};
+
+pub mod checked;
+mod checking;
+mod judging;
+mod table;
+
+use judging::judgement;
 use lines::Refusal;
+
+// 01's number of the rules' table, for the refusals that lie in it.
+const RULES_TABLE: u32 = 2;
 
 // As many references as the left side of a rule can have, and so as many bindings.
 pub const BINDINGS: usize = 23;
@@ -28,4 +40,18 @@ pub enum ReferenceKind {
 pub struct SiteMatch {
     pub verdict: u32,
     pub bindings: [u32; BINDINGS],
+}
+
+// The verdict on a rule by its number: 1 if there is none, 2 if it is not sound, else 0.
+pub fn judge(rules: &[u32], rule: u32) -> Judged
+    ensures { λ r. ⌜ judgedValues r ≡ judging (now (rules .entry)) rule ⌝ }
+{
+    let number = checked::rules_refusal(rules);
+    match number {
+        0 => Judged::Verdict(judgement(rules, rule)),
+        _ => Judged::Refused(Refusal {
+            number: number,
+            table: RULES_TABLE,
+        }),
+    }
 }

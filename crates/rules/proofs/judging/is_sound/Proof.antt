@@ -1,0 +1,146 @@
+use mathlib.Core.List.{List}
+use mathlib.Core.Bool.{true}
+use mathlib.Core.Path.{_≡_, ap, ap₂, _∙_}
+use Prim.Native.Nat.{ℕ, _+_, _<_}
+use native.Mathlib.Omega.{arith}
+use lib.ListN.{drop, getD}
+use borrow.Author.Needs.{needs}
+use Rattle.circuit.specs.Refusal.{operandsBelow}
+use Rattle.circuit.specs.Each.{allGates}
+use Rattle.circuit.specs.Table.{linesOf}
+use Rattle.circuit.specs.Circuit.{firstGate}
+use Rattle.rules.specs.Soundness.{sideValue}
+use Rattle.rules.specs.Words.{assignments, startWords}
+use Rattle.rules.specs.WellFormed.{WellFormedRule}
+use Rattle.rules.specs.RuleTable.{holesAt, rightsAt, rightFrom, closingFrom}
+use Rattle.rules.proofs.SideLaws.{side-judge}
+use Rattle.rules.proofs.RefusalLaws.{closing-below, left-references-ok, right-references-ok}
+use Rattle.rules.proofs.judging.is_sound.Statement.{statement}
+use Rattle.rules.proofs.judging.is_sound.Tie as tie
+
+-- the right side's lines, and the closing reference, at the places that were found
+right-ordered : (t : List ℕ) (p : ℕ) → WellFormedRule t p → (q : ℕ) → q ≡ rightFrom t p
+    → allGates operandsBelow (firstGate (holesAt t p)) (linesOf (rightsAt t p) (drop q t)) ≡ true
+right-ordered t p w q e = ap (λ q. allGates operandsBelow (firstGate (holesAt t p)) (linesOf (rightsAt t p) (drop q t))) e ∙ right-references-ok t p w
+
+closing-within : (t : List ℕ) (p : ℕ) → WellFormedRule t p → (q : ℕ) → q ≡ closingFrom t p → getD t (q + 1) 0 < firstGate (holesAt t p) + rightsAt t p
+closing-within t p w q e = rw e (closing-below t p w)
+
+mul-holes : tie.Need-mul-holes
+mul-holes c = search needs
+
+shared-slice-read-holes : tie.Need-shared-slice-read-holes
+shared-slice-read-holes c = search needs
+
+cast-holes : tie.Need-cast-holes
+cast-holes c = search needs
+
+add-lefts : tie.Need-add-lefts
+add-lefts c = search needs
+
+mul-lefts : tie.Need-mul-lefts
+mul-lefts c = search needs
+
+shared-slice-read-lefts : tie.Need-shared-slice-read-lefts
+shared-slice-read-lefts c = search needs
+
+cast-lefts : tie.Need-cast-lefts
+cast-lefts c = search needs
+
+add-rights : tie.Need-add-rights
+add-rights c = search needs
+
+mul-rights : tie.Need-mul-rights
+mul-rights c = search needs
+
+shared-slice-read-rights : tie.Need-shared-slice-read-rights
+shared-slice-read-rights c = search needs
+
+cast-rights : tie.Need-cast-rights
+cast-rights c = search needs
+
+cast-root : tie.Need-cast-root
+cast-root c = search needs
+
+add-root : tie.Need-add-root
+add-root c = search needs
+
+add-root-2 : tie.Need-add-root-2
+add-root-2 c = search needs
+
+sub-root : tie.Need-sub-root
+sub-root c = search needs
+
+closing-from-requires : tie.Need-closing-from-requires
+closing-from-requires c κs = search needs
+
+add-closing : tie.Need-add-closing
+add-closing c = search needs
+
+mul-closing : tie.Need-mul-closing
+mul-closing c = search needs
+
+shared-slice-read-closing : tie.Need-shared-slice-read-closing
+shared-slice-read-closing c = search needs
+
+cast-closing : tie.Need-cast-closing
+cast-closing c =
+    let s = c .before .before .before .before .before .before in
+    omega (arith, closing-within (s .args .t .now) (s .args .p) (s .pre) (c .before .closing-from .result) (c .before .closing-from .ensures), s .pre .sized)
+
+add-side-word : tie.Need-add-side-word
+add-side-word c = search needs
+
+side-word-requires : tie.Need-side-word-requires
+side-word-requires c κs =
+    let s = c .before .before .before .before .before .before in
+    let w = s .pre .sized in
+    ((omega (arith, w), (omega (arith, w), omega (arith, w))), (omega (arith, w), left-references-ok (s .args .t .now) (s .args .p) (s .pre)))
+
+right-from-requires : tie.Need-right-from-requires
+right-from-requires c κs = search needs
+
+side-word-requires-2 : tie.Need-side-word-requires-2
+side-word-requires-2 c κs =
+    let s = c .before .before .before .before .before .before .before .before in
+    let w = s .pre .sized in
+    let f = c .before .before .before .closing-from in
+    ((omega (arith, w), (omega (arith, w), omega (arith, w, c .right-from .ensures))), (closing-within (s .args .t .now) (s .args .p) (s .pre) (f .result) (f .ensures), right-ordered (s .args .t .now) (s .args .p) (s .pre) (c .right-from .result) (c .right-from .ensures)))
+
+returns : tie.Need-returns
+returns c =
+    let s = c .before .before .before .before .before .before .before .before .before in
+    let t = s .args .t .now in
+    let p = s .args .p in
+    side-judge t p (s .pre .sized .holes-limit) _ _ (c .before .before .side-word .ensures)
+    (c .side-word2 .ensures ∙ ap₂ (λ q e. sideValue (linesOf (rightsAt t p) (drop q t)) (getD t (e + 1) 0) (startWords assignments (holesAt t p))) (c .before .right-from .ensures) (c .before .before .before .before .closing-from .ensures))
+
+pub is-sound-spec : {M : Type 1} → statement M
+is-sound-spec =
+    tie.close
+    (tie.spec
+    mul-holes
+    shared-slice-read-holes
+    cast-holes
+    add-lefts
+    mul-lefts
+    shared-slice-read-lefts
+    cast-lefts
+    add-rights
+    mul-rights
+    shared-slice-read-rights
+    cast-rights
+    cast-root
+    add-root
+    add-root-2
+    sub-root
+    closing-from-requires
+    add-closing
+    mul-closing
+    shared-slice-read-closing
+    cast-closing
+    add-side-word
+    side-word-requires
+    right-from-requires
+    side-word-requires-2
+    returns)

@@ -1,0 +1,109 @@
+// Whether a rule is sound: the truth tables of its two sides as words, one bit for each assignment of the holes, and one compare (01,
+// Rules, 6).
+ghost use mathlib.Core.Path.{_≡_};
+ghost use mathlib.Core.Bool.{true};
+ghost use Prim.Native.Nat.{_+_, _*_, _<_, _≤_};
+ghost use lib.ListN.{length, drop};
+ghost use Rattle.circuit.specs.Circuit.{firstGate};
+ghost use Rattle.circuit.specs.Each.{allGates};
+ghost use Rattle.circuit.specs.Evaluation.{bitOp};
+ghost use Rattle.circuit.specs.Refusal.{operandsBelow};
+ghost use Rattle.circuit.specs.Table.{linesOf};
+ghost use Rattle.rules.specs.Rule.{maxHoles, maxLeftReferences};
+ghost use Rattle.rules.specs.RuleTable.{ruleAt};
+ghost use Rattle.rules.specs.Soundness.{sideValue, isSound};
+ghost use Rattle.rules.specs.Verdict.{judgement};
+ghost use Rattle.rules.specs.WellFormed.{WellFormedRule, WellFormedRules};
+ghost use Rattle.rules.specs.Words.{assignments, startWords};
+use crate::BINDINGS;
+use crate::table::AND;
+use crate::table::CONSTANTS;
+use crate::table::closing_from;
+use crate::table::has_rule;
+use crate::table::place;
+use crate::table::right_from;
+
+// The words of the constants, then of the holes: bit a of hole j's is bit j of a. Behind them is the room for a side's gates.
+const START_WORDS: [u64; BINDINGS] = [
+    0,
+    0xFFFF_FFFF_FFFF_FFFF,
+    0xAAAA_AAAA_AAAA_AAAA,
+    0xCCCC_CCCC_CCCC_CCCC,
+    0xF0F0_F0F0_F0F0_F0F0,
+    0xFF00_FF00_FF00_FF00,
+    0xFFFF_0000_FFFF_0000,
+    0xFFFF_FFFF_0000_0000,
+    0,
+    0,
+    0,
+    0,
+    0,
+    0,
+    0,
+    0,
+    0,
+    0,
+    0,
+    0,
+    0,
+    0,
+    0,
+];
+
+fn gate_word(kind: u32, a: u64, b: u64) -> u64
+    ensures { λ r. ⌜ r ≡ bitOp kind a b ⌝ }
+{
+    match kind {
+        AND => a & b,
+        _ => a ^ b,
+    }
+}
+
+// The word of reference r of a side whose n gate lines begin at number q.
+fn side_word(t: &[u32], q: usize, n: usize, holes: usize, r: usize) -> u64
+    requires { ⌜ (holes ≤ maxHoles) × ((firstGate holes + n ≤ maxLeftReferences) × (q + 3 * n ≤ length (now t))) ⌝ }
+    requires { ⌜ r < firstGate holes + n ⌝ }
+    requires { ⌜ allGates operandsBelow (firstGate holes) (linesOf n (drop q (now t))) ≡ true ⌝ }
+    ensures { λ w. ⌜ w ≡ sideValue (linesOf n (drop q (now (t .entry)))) r (startWords assignments holes) ⌝ }
+{
+    let mut words = START_WORDS;
+    let first = holes + CONSTANTS as usize;
+    let mut i: usize = 0;
+    while i < n {
+        let left = t[q + 3 * i + 1] as usize;
+        let right = t[q + 3 * i + 2] as usize;
+        let word = gate_word(t[q + 3 * i], words[left], words[right]);
+        words[first + i] = word;
+        i += 1;
+    }
+    words[r]
+}
+
+// Whether the rule at p is sound.
+pub fn is_sound(t: &[u32], p: usize) -> bool
+    requires { ⌜ WellFormedRule (now t) p ⌝ }
+    ensures { λ r. ⌜ r ≡ isSound (ruleAt (now (t .entry)) p) ⌝ }
+{
+    let holes = t[p] as usize;
+    let lefts = t[p + 1] as usize;
+    let rights = t[p + 2] as usize;
+    let root = holes + CONSTANTS as usize + lefts - 1;
+    let closing = t[closing_from(t, p) + 1] as usize;
+    let left = side_word(t, p + 3, lefts, holes, root);
+    let right = side_word(t, right_from(t, p), rights, holes, closing);
+    left == right
+}
+
+// The verdict 1 or 2 of a rule by its number, else 0.
+pub fn judgement(t: &[u32], rule: u32) -> u32
+    requires { ⌜ WellFormedRules (now t) ⌝ }
+    ensures { λ r. ⌜ r ≡ judgement (now (t .entry)) rule ⌝ }
+{
+    if !has_rule(t, rule) {
+        return 1;
+    }
+    if !is_sound(t, place(t, rule)) {
+        return 2;
+    }
+    0
+}

@@ -1,0 +1,94 @@
+// How the tables of rules and sites are laid out: their limits, the numbers that stand for kinds, and where the parts of a rule begin.
+ghost use mathlib.Core.Path.{_≡_};
+ghost use mathlib.Core.Bool.{true};
+ghost use Prim.Native.Nat.{_+_, _≤_};
+ghost use lib.ListN.{length};
+ghost use Rattle.rules.specs.Rule.{maxLefts, maxRights};
+ghost use Rattle.rules.specs.RuleTable.{leftsAt, rightsAt, rulesFrom, rightFrom, closingFrom, nextRule, placeOf};
+ghost use Rattle.rules.specs.SiteTable.{sitesFrom};
+ghost use Rattle.rules.specs.Verdict.{hasRule};
+ghost use Rattle.rules.specs.WellFormed.{RulesSized};
+
+pub const MAX_RULES: u32 = 64;
+
+pub const MAX_HOLES: u32 = 6;
+
+pub const MAX_LEFTS: u32 = 15;
+
+pub const MAX_RIGHTS: u32 = 15;
+
+pub const MAX_SITES: u32 = 512;
+
+// References 0 and 1.
+pub const CONSTANTS: u32 = 2;
+
+pub const XOR: u32 = 1;
+
+pub const AND: u32 = 2;
+
+pub const CLOSING: u32 = 3;
+
+// Where the first rule begins: the length of the rules' head is said here alone.
+pub fn rules_from(t: &[u32]) -> usize
+    ensures { λ r. ⌜ r ≡ rulesFrom (now (t .entry)) ⌝ }
+{
+    3
+}
+
+// Where the first site begins: likewise for the sites' head.
+pub fn sites_from(t: &[u32]) -> usize
+    ensures { λ r. ⌜ r ≡ sitesFrom (now (t .entry)) ⌝ }
+{
+    3
+}
+
+// Of the rule that begins at p: where its right gate lines, its closing line and the rule behind it begin. These lines may still be missing.
+pub fn right_from(t: &[u32], p: usize) -> usize
+    requires { ⌜ p + 3 ≤ length (now t) ⌝ }
+    requires { ⌜ (leftsAt (now t) p ≤ maxLefts) × (rightsAt (now t) p ≤ maxRights) ⌝ }
+    ensures { λ r. ⌜ r ≡ rightFrom (now (t .entry)) p ⌝ }
+{
+    let lefts = t[p + 1] as usize;
+    p + 3 + 3 * lefts
+}
+
+pub fn closing_from(t: &[u32], p: usize) -> usize
+    requires { ⌜ p + 3 ≤ length (now t) ⌝ }
+    requires { ⌜ (leftsAt (now t) p ≤ maxLefts) × (rightsAt (now t) p ≤ maxRights) ⌝ }
+    ensures { λ r. ⌜ r ≡ closingFrom (now (t .entry)) p ⌝ }
+{
+    let rights = t[p + 2] as usize;
+    right_from(t, p) + 3 * rights
+}
+
+pub fn next_rule(t: &[u32], p: usize) -> usize
+    requires { ⌜ p + 3 ≤ length (now t) ⌝ }
+    requires { ⌜ (leftsAt (now t) p ≤ maxLefts) × (rightsAt (now t) p ≤ maxRights) ⌝ }
+    ensures { λ r. ⌜ r ≡ nextRule (now (t .entry)) p ⌝ }
+{
+    closing_from(t, p) + 3
+}
+
+// Whether there is a rule of this number; they are numbered from 1.
+pub fn has_rule(t: &[u32], rule: u32) -> bool
+    requires { ⌜ RulesSized (now t) ⌝ }
+    ensures { λ r. ⌜ r ≡ hasRule (now (t .entry)) rule ⌝ }
+{
+    (1 <= rule) & (rule <= t[0])
+}
+
+// Where a rule begins, by its number.
+pub fn place(t: &[u32], rule: u32) -> usize
+    requires { ⌜ RulesSized (now t) ⌝ }
+    requires { ⌜ hasRule (now t) rule ≡ true ⌝ }
+    ensures { λ r. ⌜ r ≡ placeOf (now (t .entry)) rule ⌝ }
+{
+    let before = rule - 1;
+    let mut p = rules_from(t);
+    let mut i: u32 = 0;
+    while i < before {
+        p = next_rule(t, p);
+        i += 1;
+    }
+    p
+}
