@@ -1,14 +1,15 @@
 // What crates of this repository call: the check of a table, and work on tables that it has let pass. A `requires` here is asked by the
 // prover of every caller, and no other language reaches these functions.
 ghost use mathlib.Core.Path.{_≡_};
-ghost use Prim.Native.Nat.{_≤_};
-ghost use lib.ListN.{length};
+ghost use Prim.Native.Nat.{_+_, _*_, _<_, _≤_};
+ghost use lib.ListN.{length, getD};
 ghost use Rattle.lines.specs.Calls.{over};
+ghost use Rattle.circuit.specs.Circuit.{firstGate};
 ghost use Rattle.circuit.specs.Critical.{criticalCount};
 ghost use Rattle.circuit.specs.Depth.{depths, circuitDepth};
 ghost use Rattle.circuit.specs.Refusal.{refusal};
 ghost use Rattle.circuit.specs.ReverseDepth.{reverseDepths};
-ghost use Rattle.circuit.specs.Table.{refs, tableEnd, decode};
+ghost use Rattle.circuit.specs.Table.{inputs, gates, refs, gatesFrom, tableEnd, decode};
 ghost use Rattle.circuit.specs.Trim.{trimOf};
 ghost use Rattle.circuit.specs.WellFormed.{WellFormed};
 use crate::checking::closing_kinds_ok;
@@ -24,14 +25,33 @@ use crate::depth::clear;
 use crate::depth::output_depth;
 use crate::reverse_depth::mark_outputs;
 use crate::reverse_depth::raise_gates;
+use crate::table::MAX_GATES;
+use crate::table::MAX_OUTPUTS;
 use crate::table::MAX_REFERENCES;
+use crate::table::closings_from;
+use crate::table::gate_kind;
+use crate::table::gate_left;
+use crate::table::gate_right;
 use crate::trimming::rank_references;
 use crate::trimming::write_trimmed;
+
+// No circuit has a reference above this one.
+pub const LAST_REFERENCE: u32 = MAX_REFERENCES as u32 - 1;
+
+// As many numbers as a table has at most.
+pub const MAX_TABLE: usize = (3 + 3 * (MAX_GATES + MAX_OUTPUTS)) as usize;
 
 // 01's pair (D, N): the depth and the critical count.
 pub struct DepthPair {
     pub depth: u32,
     pub critical: u32,
+}
+
+// What a gate's line says.
+pub struct GateLine {
+    pub kind: u32,
+    pub left: u32,
+    pub right: u32,
 }
 
 // The number of the first refusal that applies to the table, or 0.
@@ -105,4 +125,32 @@ pub fn trim(t: &[u32], out: &mut [u32])
     let mut names = [0u32; MAX_REFERENCES];
     let kept = rank_references(t, &u, &mut names);
     write_trimmed(t, &u, &names, kept, out);
+}
+
+// The line of gate i, counted from 0, so that crates above need not know where lines begin. Its operands are below its own reference.
+pub fn gate_line(t: &[u32], i: usize) -> GateLine
+    requires { ⌜ WellFormed (now t) ⌝ }
+    requires { ⌜ i < gates (now t) ⌝ }
+    ensures { λ r. ⌜ r .kind ≡ getD (now (t .entry)) (gatesFrom (now (t .entry)) + 3 * i) 0 ⌝ }
+    ensures { λ r. ⌜ r .left ≡ getD (now (t .entry)) (gatesFrom (now (t .entry)) + 3 * i + 1) 0 ⌝ }
+    ensures { λ r. ⌜ r .right ≡ getD (now (t .entry)) (gatesFrom (now (t .entry)) + 3 * i + 2) 0 ⌝ }
+    ensures { λ r. ⌜ (r .left < firstGate (inputs (now (t .entry))) + i) × (r .right < firstGate (inputs (now (t .entry))) + i) ⌝ }
+{
+    let kind = gate_kind(t, i);
+    let left = gate_left(t, i) as u32;
+    let right = gate_right(t, i) as u32;
+    GateLine {
+        kind: kind,
+        left: left,
+        right: right,
+    }
+}
+
+// Where the table ends that the buffer t begins with.
+pub fn table_end(t: &[u32]) -> usize
+    requires { ⌜ 3 ≤ length (now t) ⌝ }
+    ensures { λ r. ⌜ r ≡ tableEnd (now (t .entry)) ⌝ }
+{
+    let outputs = t[2] as usize;
+    closings_from(t) + 3 * outputs
 }

@@ -6,13 +6,13 @@ use mathlib.Core.Option.{Option, none, some, bind}
 use Prim.Native.Nat.{ℕ, zero, suc, _+_, _-_, _*_, _≤_, _<_}
 use native.Mathlib.Nat.{not-suc-le-zero}
 use native.Mathlib.Omega.{arith}
-use lib.Dec.{eqb, leb}
+use lib.Dec.{eqb, leb, ltb}
 use lib.ListN.{drop, getD, set, replicate}
-use borrow.Author.Tests.{eq-eqb, ne-eqb, le-leb, lt-leb, lt-ltb, le-ltb}
+use borrow.Author.Tests.{eq-eqb, ne-eqb, le-leb, lt-leb, lt-ltb, le-ltb, ltb-true}
 use Rattle.lists.specs.First.{first}
-use Rattle.lists.proofs.Tests.{both}
+use Rattle.lists.proofs.Tests.{both, right-of}
 use Rattle.circuit.specs.Circuit.{Gate, Circuit, firstGate, references, noGate, gateAt}
-use Rattle.circuit.specs.Table.{inputs, gates, gatesFrom, lineAt, gateLines, decode}
+use Rattle.circuit.specs.Table.{inputs, gates, refs, gatesFrom, lineAt, gateLines, decode}
 use Rattle.circuit.specs.Path.{isGate}
 use Rattle.circuit.proofs.TableLaws.{lines-length, refs-decode}
 use Rattle.rules.specs.Rule.{Rule, maxLeftReferences}
@@ -61,6 +61,10 @@ gate-low c v h = rw (lt-leb (firstGate (c .inputs)) v h)
 pub gate-high : (c : Circuit) (v : ℕ) → references c ≤ v → isGate c v ≡ false
 gate-high c v h = rw (le-leb (firstGate (c .inputs)) v (omega arith), le-ltb v (references c) h)
 
+-- a gate of the circuit that the table t says
+pub gate-below : (t : List ℕ) (v : ℕ) → isGate (decode t) v ≡ true → v < refs t
+gate-below t v e = omega (arith, refs-decode t, ltb-true v (references (decode t)) (right-of (leb (firstGate (inputs t)) v) (ltb v (references (decode t))) e))
+
 -- gate k of a circuit's table, left gate i of a rule's
 pub gate-line : (t : List ℕ) (k : ℕ) → k < gates t → getD (gateLines t) k noGate ≡ lineAt t (gatesFrom t + 3 * k)
 gate-line t k h = line-of (gates t) (gatesFrom t) t k h
@@ -81,26 +85,27 @@ module _ (t : List ℕ) (m : ℕ) (g : Gate) (swap : Bool) (b : List ℕ) where
     unfolding matchGate
     match-high h = rw (gate-high (decode t) (boundTo b m) (omega (arith, refs-decode t)))
 
-    -- bound to gate k
-    module _ (k : ℕ) (e : k ≡ getD b m 0 - 1 - firstGate (inputs t)) (hi : k < gates t) where
+    -- bound to gate k, whose line says n, x, y
+    module _ (k : ℕ) (e : k ≡ getD b m 0 - 1 - firstGate (inputs t)) (hi : k < gates t) (n x y : ℕ)
+        (en : n ≡ getD t (gatesFrom t + 3 * k) 0) (ex : x ≡ getD t (gatesFrom t + 3 * k + 1) 0) (ey : y ≡ getD t (gatesFrom t + 3 * k + 2) 0) where
       gate : isGate (decode t) (boundTo b m) ≡ true
       gate = is-gate (decode t) (boundTo b m) (omega arith) (omega (arith, refs-decode t))
 
       line : gateAt (decode t) (boundTo b m) ≡ lineAt t (gatesFrom t + 3 * k)
       line = ap (λ i. getD (gateLines t) i noGate) (sym e) ∙ gate-line t k hi
 
-      pub match-kind : eqb (getD t (gatesFrom t + 3 * k) 0) (g .kind) ≡ false → none ≡ matchGate (decode t) m g swap b
+      pub match-kind : eqb n (g .kind) ≡ false → none ≡ matchGate (decode t) m g swap b
       unfolding matchGate
-      match-kind d = rw (gate, line, d)
+      match-kind d = rw (gate, line, ← en, d)
 
-      module _ (d : eqb (getD t (gatesFrom t + 3 * k) 0) (g .kind) ≡ true) where
-        pub match-cross : swap ≡ true → bindOperands g (getD t (gatesFrom t + 3 * k + 2) 0) (getD t (gatesFrom t + 3 * k + 1) 0) b ≡ matchGate (decode t) m g swap b
+      module _ (d : eqb n (g .kind) ≡ true) where
+        pub match-cross : swap ≡ true → bindOperands g y x b ≡ matchGate (decode t) m g swap b
         unfolding matchGate
-        match-cross s = rw (gate, line, d, s)
+        match-cross s = rw (gate, line, ← en, d, s, ex, ey)
 
-        pub match-plain : swap ≡ false → bindOperands g (getD t (gatesFrom t + 3 * k + 1) 0) (getD t (gatesFrom t + 3 * k + 2) 0) b ≡ matchGate (decode t) m g swap b
+        pub match-plain : swap ≡ false → bindOperands g x y b ≡ matchGate (decode t) m g swap b
         unfolding matchGate
-        match-plain s = rw (gate, line, d, s)
+        match-plain s = rw (gate, line, ← en, d, s, ex, ey)
 
 -- ---- the loop, from the last left gate to the first, with i of them left
 

@@ -1,11 +1,12 @@
 -- Verdicts by the tests that apply, what a reference is, and what a site's match says. Assumes nothing.
-use mathlib.Core.Path.{_≡_, sym, ap, _∙_}
+use mathlib.Core.Path.{_≡_, refl, sym, ap, _∙_}
 use mathlib.Core.Bool.{Bool, true, false, not}
 use mathlib.Core.List.{List, _∷_}
 use mathlib.Core.Option.{some}
 use Prim.Native.Nat.{ℕ, _+_, _-_, _/_, _^_, _≤_, _<_}
 use native.Mathlib.Decide.{decLt}
 use native.Mathlib.Omega.{arith}
+use lib.Dec.{eqb}
 use lib.ListN.{length, drop, set, replicate}
 use borrow.Author.Tests.{eq-eqb, ne-eqb, lt-ltb, le-ltb}
 use Rattle.lists.specs.First.{first}
@@ -57,6 +58,46 @@ module _ (c : Circuit) (v : ℕ) where
             | yes k ↦ ap kindVerdict (sym (kind-constant k))
             | no k ↦ ap kindVerdict (sym (kind-input (omega arith) h))
           ]
+
+-- ---- the verdict so far, j, and behind it that of the reference
+
+module _ (c : Circuit) (u : Rule) (gate mask j v : ℕ) (e : v ≡ first (eqb j 0) (kindVerdict (kindOf c gate)) j) where
+  so-far : eqb j 0 ≡ false → v ≡ j
+  so-far h = e ∙ first-false (kindVerdict (kindOf c gate)) j h
+
+  of-kind : eqb j 0 ≡ true → v ≡ first (not (isGate c gate)) 3 0
+  of-kind h = e ∙ (first-true (kindVerdict (kindOf c gate)) j h ∙ kind-verdict c gate)
+
+  -- none of them applies
+  pub none-before : v ≡ 0 → eqb j 0 ≡ true
+  none-before z = go (eqb j 0) refl
+    where
+      go : (b : Bool) → eqb j 0 ≡ b → eqb j 0 ≡ true
+      go true h = h
+      go false h = eq-eqb j 0 (sym (so-far h) ∙ z)
+
+  pub at-gate : v ≡ 0 → isGate c gate ≡ true
+  at-gate z = go (isGate c gate) refl
+    where
+      go : (b : Bool) → isGate c gate ≡ b → isGate c gate ≡ true
+      go true k = k
+      go false k =
+          let three : v ≡ 3 = of-kind (none-before z) ∙ first-true 3 0 (ap not k) in
+          let no-way : ⊥ = omega arith in
+          absurd no-way
+
+  pub judged-at : v ≡ 0 → matchAt c u gate mask ≡ first (not (eqb j 0)) (failing j) (first (not (isGate c gate)) (failing 3) (matchAt c u gate mask))
+  judged-at z = rw (none-before z, at-gate z)
+
+  -- one of them applies
+  pub judged-failing : (v ≡ 0 → ⊥) → failing v ≡ first (not (eqb j 0)) (failing j) (first (not (isGate c gate)) (failing 3) (matchAt c u gate mask))
+  judged-failing n = go (eqb j 0) refl (isGate c gate) refl
+    where
+      go : (a : Bool) → eqb j 0 ≡ a → (b : Bool) → isGate c gate ≡ b
+          → failing v ≡ first (not (eqb j 0)) (failing j) (first (not (isGate c gate)) (failing 3) (matchAt c u gate mask))
+      go false h b k = rw h (ap failing (so-far h))
+      go true h true k = absurd (n (of-kind h ∙ first-false 3 0 (ap not k)))
+      go true h false k = rw (h, k) (ap failing (of-kind h ∙ first-true 3 0 (ap not k)))
 
 -- ---- the judge
 
@@ -120,3 +161,16 @@ module _ (c : Circuit) (t : List ℕ) (rule gate mask : ℕ) where
     pub site-at : isGate c gate ≡ true → matchAt c (ruleOf t rule) gate mask ≡ matchSite c t rule gate mask
     unfolding matchSite
     site-at g = rw (h, k, g)
+
+  -- by the judge's verdict
+  pub site-judged : hasRule t rule ≡ true
+      → first (not (eqb (judgement t rule) 0)) (failing (judgement t rule)) (first (not (isGate c gate)) (failing 3) (matchAt c (ruleOf t rule) gate mask))
+      ≡ matchSite c t rule gate mask
+  unfolding judgement matchSite
+  site-judged h = rw h (go (isSound (ruleOf t rule)))
+    where
+      go : (b : Bool)
+          → first (not (eqb (first (not b) 2 0) 0)) (failing (first (not b) 2 0)) (first (not (isGate c gate)) (failing 3) (matchAt c (ruleOf t rule) gate mask))
+          ≡ first (not b) (failing 2) (first (not (isGate c gate)) (failing 3) (matchAt c (ruleOf t rule) gate mask))
+      go true = refl
+      go false = refl

@@ -5,7 +5,9 @@ ghost use Rattle.rules.specs.JudgeCall.{judging, paperValues as judgedVa
 pub mod checked;
 mod checking;
 mod judging;
+mod matching;
 mod table;
+mod verdict;
 
 use judging::judgement;
 use lines::Refusal;

@@ -1,0 +1,63 @@
+use native.Mathlib.Omega.{arith}
+use borrow.Author.Needs.{needs}
+use Rattle.circuit.specs.Table.{decode}
+use Rattle.circuit.proofs.TableLaws.{refs-decode}
+use Rattle.rules.proofs.VerdictLaws.{kind-constant, kind-input, kind-gate, kind-beyond}
+use Rattle.rules.proofs.verdict.kind_of.Statement.{statement}
+use Rattle.rules.proofs.verdict.kind_of.Tie as tie
+
+shared-slice-read-first : tie.Need-shared-slice-read-first
+shared-slice-read-first c = search needs
+
+add-first : tie.Need-add-first
+add-first c = search needs
+
+returns : tie.Need-returns
+returns c =
+    let s = c .before .before .before .before in
+    let t = s .args .c .now in
+    kind-input (decode t) (s .args .v) (omega arith) (c .if3 .taken)
+
+shared-slice-read-if4 : tie.Need-shared-slice-read-if4
+shared-slice-read-if4 c = search needs
+
+add-if4 : tie.Need-add-if4
+add-if4 c = search needs
+
+returns-2 : tie.Need-returns-2
+returns-2 c =
+    let s = c .before .before .before .before .before .before in
+    let t = s .args .c .now in
+    kind-gate (decode t) (s .args .v) (omega arith) (omega (arith, refs-decode t))
+
+returns-3 : tie.Need-returns-3
+returns-3 c =
+    let s = c .before in
+    let t = s .args .c .now in
+    kind-constant (decode t) (s .args .v) (omega arith)
+
+returns-4 : tie.Need-returns-4
+returns-4 c =
+    let s = c .before .before .before .before .before .before in
+    let t = s .args .c .now in
+    kind-beyond (decode t) (s .args .v) (omega (arith, refs-decode t))
+
+returns-5 : tie.Need-returns-5
+returns-5 c =
+    let s = c .before .before in
+    let t = s .args .c .now in
+    kind-beyond (decode t) (s .args .v) (omega (arith, refs-decode t, s .pre .sized))
+
+pub kind-of-spec : {M : Type 1} → statement M
+kind-of-spec =
+    tie.close
+    (tie.spec
+    shared-slice-read-first
+    add-first
+    returns
+    shared-slice-read-if4
+    add-if4
+    returns-2
+    returns-3
+    returns-4
+    returns-5)

@@ -1,0 +1,125 @@
+// The match of a rule's left side at a gate (01, Sites, Match).
+ghost use mathlib.Core.Path.{_≡_};
+ghost use mathlib.Core.Option.{bind};
+ghost use Prim.Native.Nat.{_+_, _<_, _≤_};
+ghost use lib.ListN.{length, getD};
+ghost use Rattle.circuit.specs.Circuit.{maxInputs, maxGates, firstGate};
+ghost use Rattle.circuit.specs.Table.{refs, lineAt, decode};
+ghost use Rattle.circuit.specs.WellFormed.{WellFormed};
+ghost use Rattle.rules.specs.Rule.{maxLeftReferences};
+ghost use Rattle.rules.specs.RuleTable.{leftsAt, ruleAt};
+ghost use Rattle.rules.specs.WellFormed.{WellFormedRule};
+ghost use Rattle.rules.specs.Match.{bindReference, matchGate, matchGates, attempt};
+ghost use Rattle.rules.specs.Verdict.{failing, matchAt};
+use crate::BINDINGS;
+use crate::SiteMatch;
+use circuit::checked::gate_line;
+
+// A verdict that applies: there are no bindings.
+pub fn failing(verdict: u32) -> SiteMatch
+    ensures { λ r. ⌜ r ≡ failing verdict ⌝ }
+{
+    SiteMatch {
+        verdict: verdict,
+        bindings: [0u32; BINDINGS],
+    }
+}
+
+// Rule reference r paired with circuit reference v: an unbound one becomes bound. Where it fails, the bindings are of no more use.
+fn bind_reference(b: &mut [u32; BINDINGS], r: usize, v: u32) -> bool
+    requires { ⌜ r < maxLeftReferences ⌝ }
+    requires { ⌜ v < firstGate maxInputs + maxGates ⌝ }
+    ensures { λ x. ⌜ attempt x (now (b .exit)) ≡ bindReference r v (now (b .entry)) ⌝ }
+{
+    let old = b[r];
+    if old == 0 {
+        b[r] = v + 1;
+        return true;
+    }
+    old == v + 1
+}
+
+// Rule references l and r paired with x and y, the left ones first.
+fn bind_operands(b: &mut [u32; BINDINGS], l: usize, r: usize, x: u32, y: u32) -> bool
+    requires { ⌜ (l < maxLeftReferences) × (r < maxLeftReferences) ⌝ }
+    requires { ⌜ (x < firstGate maxInputs + maxGates) × (y < firstGate maxInputs + maxGates) ⌝ }
+    ensures { λ z. ⌜ attempt z (now (b .exit)) ≡ bind (bindReference l x (now (b .entry))) (bindReference r y) ⌝ }
+{
+    if bind_reference(b, l, x) {
+        return bind_reference(b, r, y);
+    }
+    false
+}
+
+// One left gate's part of the match: its line begins at number q of t, its reference is m. An unbound one is bound to no gate.
+fn match_gate(c: &[u32], t: &[u32], q: usize, m: usize, swap: bool, b: &mut [u32; BINDINGS]) -> bool
+    requires { ⌜ WellFormed (now c) ⌝ }
+    requires { ⌜ (q + 3 ≤ length (now t)) × (m < maxLeftReferences) ⌝ }
+    requires { ⌜ (getD (now t) (q + 1) 0 < maxLeftReferences) × (getD (now t) (q + 2) 0 < maxLeftReferences) ⌝ }
+    ensures { λ z. ⌜ attempt z (now (b .exit)) ≡ matchGate (decode (now (c .entry))) m (lineAt (now (t .entry)) q) swap (now (b .entry)) ⌝ }
+{
+    let first = c[0] + 2;
+    let bound = b[m];
+    if bound <= first {
+        return false;
+    }
+    let k = bound - 1 - first;
+    if c[1] <= k {
+        return false;
+    }
+    let line = gate_line(c, k as usize);
+    if line.kind != t[q] {
+        return false;
+    }
+    let l = t[q + 1] as usize;
+    let r = t[q + 2] as usize;
+    if swap {
+        return bind_operands(b, l, r, line.right, line.left);
+    }
+    bind_operands(b, l, r, line.left, line.right)
+}
+
+// The left gates of the rule at number p of t, from the last to the first.
+fn match_gates(c: &[u32], t: &[u32], p: usize, mask: u32, b: &mut [u32; BINDINGS]) -> bool
+    requires { ⌜ WellFormed (now c) ⌝ }
+    requires { ⌜ WellFormedRule (now t) p ⌝ }
+    ensures { λ z. ⌜ attempt z (now (b .exit)) ≡ matchGates (decode (now (c .entry))) (ruleAt (now (t .entry)) p) mask (leftsAt (now (t .entry)) p) (now (b .entry)) ⌝ }
+{
+    let first = t[p] as usize + 2;
+    let mut i = t[p + 1];
+    while 0 < i {
+        i -= 1;
+        let k = i as usize;
+        let swap = (mask >> i) % 2 == 1;
+        if !match_gate(c, t, p + 3 + 3 * k, first + k, swap, b) {
+            return false;
+        }
+    }
+    true
+}
+
+// The verdict 4 or 0 of the rule at number p of t at a gate, with the bindings.
+pub fn match_at(c: &[u32], t: &[u32], p: usize, gate: u32, mask: u32) -> SiteMatch
+    requires { ⌜ WellFormed (now c) ⌝ }
+    requires { ⌜ WellFormedRule (now t) p ⌝ }
+    requires { ⌜ gate < refs (now c) ⌝ }
+    ensures { λ r. ⌜ r ≡ matchAt (decode (now (c .entry))) (ruleAt (now (t .entry)) p) gate mask ⌝ }
+{
+    let lefts = t[p + 1];
+    if mask >> lefts != 0 {
+        return failing(4);
+    }
+    // the constants are bound to themselves, the last left gate to the site's gate
+    let mut b = [0u32; BINDINGS];
+    b[0] = 1;
+    b[1] = 2;
+    let root = t[p] as usize + 2 + lefts as usize - 1;
+    b[root] = gate + 1;
+    if match_gates(c, t, p, mask, &mut b) {
+        return SiteMatch {
+            verdict: 0,
+            bindings: b,
+        };
+    }
+    failing(4)
+}
