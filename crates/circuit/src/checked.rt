@@ -4,6 +4,7 @@ ghost use mathlib.Core.Path.{_≡_};
 ghost use Prim.Native.Nat.{_+_, _*_, _<_, _≤_};
 ghost use lib.ListN.{length, getD};
 ghost use Rattle.lines.specs.Calls.{over};
+ghost use Rattle.lines.specs.Text.{isPartial};
 ghost use Rattle.circuit.specs.Circuit.{firstGate};
 ghost use Rattle.circuit.specs.Critical.{criticalCount};
 ghost use Rattle.circuit.specs.Depth.{depths, circuitDepth};
@@ -16,7 +17,6 @@ use crate::checking::closing_kinds_ok;
 use crate::checking::closing_references_ok;
 use crate::checking::gate_kinds_ok;
 use crate::checking::head_in_limits;
-use crate::checking::is_partial;
 use crate::checking::lines_as_head_says;
 use crate::checking::operands_ok;
 use crate::critical::count_critical;
@@ -52,6 +52,13 @@ pub struct GateLine {
     pub kind: u32,
     pub left: u32,
     pub right: u32,
+}
+
+// Refusal 1, of any table: it is empty, or not a multiple of 3 numbers.
+pub fn is_partial(t: &[u32]) -> bool
+    ensures { λ r. ⌜ r ≡ isPartial 3 (now (t .entry)) ⌝ }
+{
+    (t.len() == 0) | (t.len() % 3 != 0)
 }
 
 // The number of the first refusal that applies to the table, or 0.

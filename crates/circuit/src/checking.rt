@@ -1,8 +1,7 @@
-// The tests of a circuit's table, in the order of 01's refusals 1 and 4 to 7. Each is true if the refusal does not apply, but for `is_partial`.
+// The tests of a circuit's table, in the order of 01's refusals 4 to 7. Each is true if the refusal does not apply.
 ghost use mathlib.Core.Path.{_≡_};
 ghost use Prim.Native.Nat.{_≤_};
 ghost use lib.ListN.{length};
-ghost use Rattle.lines.specs.Text.{isPartial};
 ghost use Rattle.circuit.specs.Refusal.{headInLimits, linesAsHeadSays, gateKindsOk, closingKindsOk, operandsOk, closingReferencesOk};
 ghost use Rattle.circuit.specs.WellFormed.{Sized};
 use crate::table::AND;
@@ -14,13 +13,6 @@ use crate::table::MAX_OUTPUTS;
 use crate::table::XOR;
 use crate::table::closings_from;
 use crate::table::gates_from;
-
-// Refusal 1.
-pub fn is_partial(t: &[u32]) -> bool
-    ensures { λ r. ⌜ r ≡ isPartial 3 (now (t .entry)) ⌝ }
-{
-    (t.len() == 0) | (t.len() % 3 != 0)
-}
 
 // Refusal 4.
 pub fn head_in_limits(t: &[u32]) -> bool

@@ -13,7 +13,7 @@ mod reverse_depth;
 mod table;
 mod trimming;
 
-use checking::is_partial;
+use checked::is_partial;
 use evaluating::evaluate_into;
 use lines::Refusal;
 use table::MAX_OUTPUTS;
@@ -21,7 +21,7 @@ use table::MAX_OUTPUTS;
 // 01's numbers of the table that a fault lies in.
 const NO_TABLE: u32 = 0;
 
-const CIRCUIT_TABLE: u32 = 1;
+pub const CIRCUIT_TABLE: u32 = 1;
 
 // The number of outputs that were given, or the refusal.
 pub enum Evaluated {

@@ -133,11 +133,12 @@ module _ (c : Circuit) (u : Rule) (mask : ℕ) where
   unfolding matchGates
   gates-done i b e = rw e
 
--- of the rule at number p of a table: x and b′ are what its gate line i - 1 left
-module _ (c : Circuit) (t : List ℕ) (p mask i : ℕ) (b b′ : List ℕ) (x : Bool) (some-left : 0 < i) (in-rule : i ≤ leftsAt t p)
-    (e : attempt x b′ ≡ matchGate c (firstGate (holesAt t p) + (i - 1)) (lineAt t (leftFrom t p + 3 * (i - 1))) (isSwapped mask (i - 1)) b) where
+-- of the rule at number p of a table, whose left gate lines begin at q: x and b′ are what its gate line i - 1 left
+module _ (c : Circuit) (t : List ℕ) (p mask i : ℕ) (b b′ : List ℕ) (x : Bool) (some-left : 0 < i) (in-rule : i ≤ leftsAt t p) (q : ℕ) (at : q ≡ leftFrom t p)
+    (e : attempt x b′ ≡ matchGate c (firstGate (holesAt t p) + (i - 1)) (lineAt t (q + 3 * (i - 1))) (isSwapped mask (i - 1)) b) where
   part : attempt x b′ ≡ matchGate c (firstGate (holesAt t p) + (i - 1)) (getD (ruleAt t p .lefts) (i - 1) noGate) (isSwapped mask (i - 1)) b
-  part = e ∙ ap (λ g. matchGate c (firstGate (holesAt t p) + (i - 1)) g (isSwapped mask (i - 1)) b) (sym (left-line t p (i - 1) (omega arith)))
+  part =
+      e ∙ ap (λ g. matchGate c (firstGate (holesAt t p) + (i - 1)) g (isSwapped mask (i - 1)) b) (ap (λ q. lineAt t (q + 3 * (i - 1))) at ∙ sym (left-line t p (i - 1) (omega arith)))
 
   pub gates-more : x ≡ true → matchGates c (ruleAt t p) mask (i - 1) b′ ≡ matchGates c (ruleAt t p) mask i b
   gates-more h = more c (ruleAt t p) mask i b b′ x some-left part h

@@ -23,6 +23,8 @@ use Rattle.circuit.proofs.RefusalLaws.{passed}
 use Rattle.rules.specs.RuleTable.{ruleCount, rulesFrom, holesAt, leftsAt, rightsAt, leftFrom, rightFrom, closingFrom, ruleAt, placeFrom, placeOf}
 use Rattle.rules.specs.RuleRefusal.{walkFromTop, ruleKindsOk, referencesOk, usesOk, rulesKindsOk, rulesReferencesOk, rulesUsesOk, rulesRefusal}
 use Rattle.rules.specs.WellFormed.{RulesSized, WellFormedRule, ValidRule, WellFormedRules}
+use Rattle.rules.specs.Rule.{maxLeftReferences}
+use Rattle.rules.specs.Verdict.{hasRule}
 use Rattle.rules.specs.Theorems.{AcceptedRulesAreWellFormed, EachRuleIsWellFormed}
 use Rattle.rules.proofs.WalkLaws.{walk-end, rules-sized-of, walk-sized, walk-at, rules-at, rule-from, rule-to}
 use Rattle.rules.proofs.LineLaws.{operands-at, kind-at, each-from}
@@ -157,6 +159,12 @@ module _ (t : List ℕ) where
           → (getD t (leftFrom t p + 3 * i + 1) 0 < firstGate (holesAt t p) + i) × (getD t (leftFrom t p + 3 * i + 2) 0 < firstGate (holesAt t p) + i)
       left-operands h = operands-at (leftsAt t p) (leftFrom t p) t (firstGate (holesAt t p)) left-references-ok i h
 
+      -- where they are found to begin at q
+      pub left-operands-small : i < leftsAt t p → (q : ℕ) → q ≡ leftFrom t p → (getD t (q + 3 * i + 1) 0 < maxLeftReferences) × (getD t (q + 3 * i + 2) 0 < maxLeftReferences)
+      left-operands-small h q e =
+          let o = left-operands h in
+          rw e (omega (arith, o, w .sized), omega (arith, o, w .sized))
+
       pub right-operands : i < rightsAt t p
           → (getD t (rightFrom t p + 3 * i + 1) 0 < firstGate (holesAt t p) + i) × (getD t (rightFrom t p + 3 * i + 2) 0 < firstGate (holesAt t p) + i)
       right-operands h =
@@ -215,3 +223,7 @@ pub each-rule-is-well-formed : EachRuleIsWellFormed
 each-rule-is-well-formed t w rule h =
     let r = place-well-formed t w (rule - 1) (omega (arith, rule-from t rule h, rule-to t rule h)) in
     (r, valid-rule t (placeOf t rule) r)
+
+-- the same at the place that was found
+pub rule-at-place : (t : List ℕ) → WellFormedRules t → (rule : ℕ) → hasRule t rule ≡ true → (p : ℕ) → p ≡ placeOf t rule → WellFormedRule t p
+rule-at-place t w rule h p e = rw e (each-rule-is-well-formed t w rule h .0)

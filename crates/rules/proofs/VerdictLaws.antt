@@ -15,7 +15,7 @@ use Rattle.circuit.specs.Circuit.{Circuit, firstGate, references}
 use Rattle.circuit.specs.Path.{isGate}
 use Rattle.rules.specs.declared.ReferenceKind.the-variants.{Constant, Input, Gate, Beyond}
 use Rattle.rules.specs.Rule.{Rule, maxLeftReferences}
-use Rattle.rules.specs.RuleTable.{holesAt, leftsAt, leftFrom, ruleAt, ruleOf}
+use Rattle.rules.specs.RuleTable.{holesAt, leftsAt, leftFrom, ruleAt, placeOf, ruleOf}
 use Rattle.rules.specs.Soundness.{isSound}
 use Rattle.rules.specs.Match.{matchGates, matchRule, attempt}
 use Rattle.rules.specs.Verdict.{hasRule, judgement, kindOf, kindVerdict, failing, found, matchAt, matchSite}
@@ -106,13 +106,10 @@ module _ (t : List ℕ) (rule : ℕ) where
   unfolding judgement
   judged-missing h = rw h
 
-  pub judged-unsound : hasRule t rule ≡ true → isSound (ruleOf t rule) ≡ false → 2 ≡ judgement t rule
+  -- p is where the rule begins
+  pub judged-there : hasRule t rule ≡ true → (p : ℕ) → p ≡ placeOf t rule → first (not (isSound (ruleAt t p))) 2 0 ≡ judgement t rule
   unfolding judgement
-  judged-unsound h k = rw (h, k)
-
-  pub judged-sound : hasRule t rule ≡ true → isSound (ruleOf t rule) ≡ true → 0 ≡ judgement t rule
-  unfolding judgement
-  judged-sound h k = rw (h, k)
+  judged-there h p e = rw (h, e)
 
 -- ---- the match
 
@@ -149,25 +146,15 @@ module _ (c : Circuit) (t : List ℕ) (rule gate mask : ℕ) where
   unfolding matchSite
   site-missing h = rw h
 
-  pub site-unsound : hasRule t rule ≡ true → isSound (ruleOf t rule) ≡ false → failing 2 ≡ matchSite c t rule gate mask
+  pub site-at : hasRule t rule ≡ true → isSound (ruleOf t rule) ≡ true → isGate c gate ≡ true → matchAt c (ruleOf t rule) gate mask ≡ matchSite c t rule gate mask
   unfolding matchSite
-  site-unsound h k = rw (h, k)
+  site-at h k g = rw (h, k, g)
 
-  module _ (h : hasRule t rule ≡ true) (k : isSound (ruleOf t rule) ≡ true) where
-    pub site-no-gate : isGate c gate ≡ false → failing 3 ≡ matchSite c t rule gate mask
-    unfolding matchSite
-    site-no-gate g = rw (h, k, g)
-
-    pub site-at : isGate c gate ≡ true → matchAt c (ruleOf t rule) gate mask ≡ matchSite c t rule gate mask
-    unfolding matchSite
-    site-at g = rw (h, k, g)
-
-  -- by the judge's verdict
-  pub site-judged : hasRule t rule ≡ true
-      → first (not (eqb (judgement t rule) 0)) (failing (judgement t rule)) (first (not (isGate c gate)) (failing 3) (matchAt c (ruleOf t rule) gate mask))
-      ≡ matchSite c t rule gate mask
-  unfolding judgement matchSite
-  site-judged h = rw h (go (isSound (ruleOf t rule)))
+  -- p is where the rule begins, and j the judge's verdict
+  pub site-there : hasRule t rule ≡ true → (p : ℕ) → p ≡ placeOf t rule → (j : ℕ) → j ≡ first (not (isSound (ruleAt t p))) 2 0
+      → first (not (eqb j 0)) (failing j) (first (not (isGate c gate)) (failing 3) (matchAt c (ruleAt t p) gate mask)) ≡ matchSite c t rule gate mask
+  unfolding matchSite
+  site-there h p e j f = rw (h, f, e) (go (isSound (ruleOf t rule)))
     where
       go : (b : Bool)
           → first (not (eqb (first (not b) 2 0) 0)) (failing (first (not b) 2 0)) (first (not (isGate c gate)) (failing 3) (matchAt c (ruleOf t rule) gate mask))

@@ -2,21 +2,25 @@
 // here is asked by the prover of every caller, and no other language reaches these functions.
 ghost use mathlib.Core.Path.{_≡_};
 ghost use mathlib.Core.Bool.{true};
+ghost use Rattle.circuit.specs.Table.{decode};
+ghost use Rattle.circuit.specs.WellFormed.{WellFormed};
 ghost use Rattle.rules.specs.RuleRefusal.{rulesRefusal};
-ghost use Rattle.rules.specs.RuleTable.{ruleAt, placeOf};
+ghost use Rattle.rules.specs.RuleTable.{placeOf};
 ghost use Rattle.rules.specs.SiteTable.{sitesRefusal};
-ghost use Rattle.rules.specs.Soundness.{isSound};
-ghost use Rattle.rules.specs.Verdict.{hasRule};
-ghost use Rattle.rules.specs.WellFormed.{WellFormedRule, WellFormedRules};
-use crate::checking::is_partial;
+ghost use Rattle.rules.specs.Verdict.{hasRule, matchSite};
+ghost use Rattle.rules.specs.WellFormed.{WellFormedRules};
+use crate::SiteMatch;
 use crate::checking::rules_kinds_ok;
 use crate::checking::rules_references_ok;
 use crate::checking::rules_uses_ok;
 use crate::checking::sites_as_head_says;
 use crate::checking::sites_head_in_limits;
 use crate::checking::walk_from_top;
-use crate::judging;
+use crate::judging::soundness_verdict;
+use crate::matching::failing;
 use crate::table;
+use crate::verdict::match_judged;
+use circuit::checked::is_partial;
 
 // The number of the first refusal that applies to the rules, or 0.
 pub fn rules_refusal(t: &[u32]) -> u32
@@ -66,10 +70,15 @@ pub fn place(t: &[u32], rule: u32) -> usize
     table::place(t, rule)
 }
 
-// Whether the rule at p is sound.
-pub fn is_sound(t: &[u32], p: usize) -> bool
-    requires { ⌜ WellFormedRule (now t) p ⌝ }
-    ensures { λ r. ⌜ r ≡ isSound (ruleAt (now (t .entry)) p) ⌝ }
+// The first of a site's verdicts 1 to 4 that applies, else 0, with the bindings of the match.
+pub fn site_match(c: &[u32], t: &[u32], rule: u32, gate: u32, mask: u32) -> SiteMatch
+    requires { ⌜ WellFormed (now c) ⌝ }
+    requires { ⌜ WellFormedRules (now t) ⌝ }
+    ensures { λ r. ⌜ r ≡ matchSite (decode (now (c .entry))) (now (t .entry)) rule gate mask ⌝ }
 {
-    judging::is_sound(t, p)
+    if !table::has_rule(t, rule) {
+        return failing(1);
+    }
+    let p = table::place(t, rule);
+    match_judged(c, t, p, soundness_verdict(t, p), gate, mask)
 }

@@ -1,9 +1,8 @@
-// The tests of tables of rules and sites, in the order of 01's refusals 1 and 4 to 8. Each test is true if the refusal does not apply, but
-// for `is_partial`; the walk gives the refusal's number.
+// The tests of tables of rules and sites, in the order of 01's refusals 4 to 8. Each test is true if the refusal does not apply; the walk
+// gives the refusal's number.
 ghost use mathlib.Core.Path.{_≡_};
 ghost use Prim.Native.Nat.{_+_, _*_, _≤_};
 ghost use lib.ListN.{length, drop};
-ghost use Rattle.lines.specs.Text.{isPartial};
 ghost use Rattle.circuit.specs.Circuit.{firstGate};
 ghost use Rattle.circuit.specs.Each.{allGates};
 ghost use Rattle.circuit.specs.Refusal.{hasGateKind, operandsBelow};
@@ -27,13 +26,6 @@ use crate::table::next_rule;
 use crate::table::right_from;
 use crate::table::rules_from;
 use crate::table::sites_from;
-
-// Refusal 1, of either table.
-pub fn is_partial(t: &[u32]) -> bool
-    ensures { λ r. ⌜ r ≡ isPartial 3 (now (t .entry)) ⌝ }
-{
-    (t.len() == 0) | (t.len() % 3 != 0)
-}
 
 // Refusal 4 of the rules' head.
 fn rules_head_in_limits(t: &[u32]) -> bool

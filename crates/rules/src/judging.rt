@@ -1,9 +1,10 @@
 // Whether a rule is sound: the truth tables of its two sides as words, one bit for each assignment of the holes, and one compare (01,
 // Rules, 6).
 ghost use mathlib.Core.Path.{_≡_};
-ghost use mathlib.Core.Bool.{true};
+ghost use mathlib.Core.Bool.{true, not};
 ghost use Prim.Native.Nat.{_+_, _*_, _<_, _≤_};
 ghost use lib.ListN.{length, drop};
+ghost use Rattle.lists.specs.First.{first};
 ghost use Rattle.circuit.specs.Circuit.{firstGate};
 ghost use Rattle.circuit.specs.Each.{allGates};
 ghost use Rattle.circuit.specs.Evaluation.{bitOp};
@@ -20,6 +21,7 @@ use crate::table::AND;
 use crate::table::CONSTANTS;
 use crate::table::closing_from;
 use crate::table::has_rule;
+use crate::table::left_from;
 use crate::table::place;
 use crate::table::right_from;
 
@@ -80,7 +82,7 @@ fn side_word(t: &[u32], q: usize, n: usize, holes: usize, r: usize) -> u64
 }
 
 // Whether the rule at p is sound.
-pub fn is_sound(t: &[u32], p: usize) -> bool
+fn is_sound(t: &[u32], p: usize) -> bool
     requires { ⌜ WellFormedRule (now t) p ⌝ }
     ensures { λ r. ⌜ r ≡ isSound (ruleAt (now (t .entry)) p) ⌝ }
 {
@@ -89,9 +91,20 @@ pub fn is_sound(t: &[u32], p: usize) -> bool
     let rights = t[p + 2] as usize;
     let root = holes + CONSTANTS as usize + lefts - 1;
     let closing = t[closing_from(t, p) + 1] as usize;
-    let left = side_word(t, p + 3, lefts, holes, root);
+    let left = side_word(t, left_from(t, p), lefts, holes, root);
     let right = side_word(t, right_from(t, p), rights, holes, closing);
     left == right
+}
+
+// The verdict 2 of the rule at p, else 0.
+pub fn soundness_verdict(t: &[u32], p: usize) -> u32
+    requires { ⌜ WellFormedRule (now t) p ⌝ }
+    ensures { λ r. ⌜ r ≡ first (not (isSound (ruleAt (now (t .entry)) p))) 2 0 ⌝ }
+{
+    if is_sound(t, p) {
+        return 0;
+    }
+    2
 }
 
 // The verdict 1 or 2 of a rule by its number, else 0.
@@ -102,8 +115,5 @@ pub fn judgement(t: &[u32], rule: u32) -> u32
     if !has_rule(t, rule) {
         return 1;
     }
-    if !is_sound(t, place(t, rule)) {
-        return 2;
-    }
-    0
+    soundness_verdict(t, place(t, rule))
 }

@@ -1,6 +1,7 @@
 // Rules and sites as tables of three numbers a line: their checks, the judge and the match (01, Rules; Sites).
 ghost use mathlib.Core.Path.{_≡_};
 ghost use Rattle.rules.specs.JudgeCall.{judging, paperValues as judgedValues};
+ghost use Rattle.rules.specs.MatchCall.{matching, paperValues as matchedValues};
 
 pub mod checked;
 mod checking;
@@ -9,8 +10,12 @@ mod matching;
 mod table;
 mod verdict;
 
+use circuit::CIRCUIT_TABLE;
+use circuit::checked::is_partial;
+use circuit::checked::refusal;
 use judging::judgement;
 use lines::Refusal;
+use verdict::trimmed_verdict;
 
 // 01's number of the rules' table, for the refusals that lie in it.
 const RULES_TABLE: u32 = 2;
@@ -56,4 +61,37 @@ pub fn judge(rules: &[u32], rule: u32) -> Judged
             table: RULES_TABLE,
         }),
     }
+}
+
+// The verdict on a site before anything is replaced there: the first of 1 to 4 that applies in the trimmed circuit, else 0.
+pub fn match_site(circuit: &[u32], rules: &[u32], rule: u32, gate: u32, mask: u32) -> Matched
+    ensures { λ r. ⌜ matchedValues r ≡ matching (now (circuit .entry)) (now (rules .entry)) rule gate mask ⌝ }
+{
+    if is_partial(circuit) {
+        return Matched::Refused(Refusal {
+            number: 1,
+            table: CIRCUIT_TABLE,
+        });
+    }
+    if is_partial(rules) {
+        return Matched::Refused(Refusal {
+            number: 1,
+            table: RULES_TABLE,
+        });
+    }
+    let of_circuit = refusal(circuit);
+    if of_circuit != 0 {
+        return Matched::Refused(Refusal {
+            number: of_circuit,
+            table: CIRCUIT_TABLE,
+        });
+    }
+    let of_rules = checked::rules_refusal(rules);
+    if of_rules != 0 {
+        return Matched::Refused(Refusal {
+            number: of_rules,
+            table: RULES_TABLE,
+        });
+    }
+    Matched::Verdict(trimmed_verdict(circuit, rules, rule, gate, mask))
 }

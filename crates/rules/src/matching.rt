@@ -13,6 +13,8 @@ ghost use Rattle.rules.specs.Match.{bindReference, matchGate, matchGates
 ghost use Rattle.rules.specs.Verdict.{failing, matchAt};
 use crate::BINDINGS;
 use crate::SiteMatch;
+use crate::table::CONSTANTS;
+use crate::table::left_from;
 use circuit::checked::gate_line;
 
 // A verdict that applies: there are no bindings.
@@ -58,7 +60,7 @@ fn match_gate(c: &[u32], t: &[u32], q: usize, m: usize, swap: bool, b: &mut [u32
     requires { ⌜ (getD (now t) (q + 1) 0 < maxLeftReferences) × (getD (now t) (q + 2) 0 < maxLeftReferences) ⌝ }
     ensures { λ z. ⌜ attempt z (now (b .exit)) ≡ matchGate (decode (now (c .entry))) m (lineAt (now (t .entry)) q) swap (now (b .entry)) ⌝ }
 {
-    let first = c[0] + 2;
+    let first = c[0] + CONSTANTS;
     let bound = b[m];
     if bound <= first {
         return false;
@@ -85,13 +87,14 @@ fn match_gates(c: &[u32], t: &[u32], p: usize, mask: u32, b: &mut [u32; BINDINGS
     requires { ⌜ WellFormedRule (now t) p ⌝ }
     ensures { λ z. ⌜ attempt z (now (b .exit)) ≡ matchGates (decode (now (c .entry))) (ruleAt (now (t .entry)) p) mask (leftsAt (now (t .entry)) p) (now (b .entry)) ⌝ }
 {
-    let first = t[p] as usize + 2;
+    let from = left_from(t, p);
+    let first = t[p] as usize + CONSTANTS as usize;
     let mut i = t[p + 1];
     while 0 < i {
         i -= 1;
         let k = i as usize;
         let swap = (mask >> i) % 2 == 1;
-        if !match_gate(c, t, p + 3 + 3 * k, first + k, swap, b) {
+        if !match_gate(c, t, from + 3 * k, first + k, swap, b) {
             return false;
         }
     }
@@ -113,7 +116,7 @@ pub fn match_at(c: &[u32], t: &[u32], p: usize, gate: u32, mask: u32) -> SiteMat
     let mut b = [0u32; BINDINGS];
     b[0] = 1;
     b[1] = 2;
-    let root = t[p] as usize + 2 + lefts as usize - 1;
+    let root = t[p] as usize + CONSTANTS as usize + lefts as usize - 1;
     b[root] = gate + 1;
     if match_gates(c, t, p, mask, &mut b) {
         return SiteMatch {

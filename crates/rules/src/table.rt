@@ -4,7 +4,7 @@ ghost use mathlib.Core.Bool.{true};
 ghost use Prim.Native.Nat.{_+_, _≤_};
 ghost use lib.ListN.{length};
 ghost use Rattle.rules.specs.Rule.{maxLefts, maxRights};
-ghost use Rattle.rules.specs.RuleTable.{leftsAt, rightsAt, rulesFrom, rightFrom, closingFrom, nextRule, placeOf};
+ghost use Rattle.rules.specs.RuleTable.{leftsAt, rightsAt, rulesFrom, leftFrom, rightFrom, closingFrom, nextRule, placeOf};
 ghost use Rattle.rules.specs.SiteTable.{sitesFrom};
 ghost use Rattle.rules.specs.Verdict.{hasRule};
 ghost use Rattle.rules.specs.WellFormed.{RulesSized};
@@ -42,14 +42,22 @@ pub fn sites_from(t: &[u32]) -> usize
     3
 }
 
-// Of the rule that begins at p: where its right gate lines, its closing line and the rule behind it begin. These lines may still be missing.
+// Of the rule that begins at p: where its left gate lines, its right gate lines, its closing line and the rule behind it begin. These lines
+// may still be missing.
+pub fn left_from(t: &[u32], p: usize) -> usize
+    requires { ⌜ p + 3 ≤ length (now t) ⌝ }
+    ensures { λ r. ⌜ r ≡ leftFrom (now (t .entry)) p ⌝ }
+{
+    p + 3
+}
+
 pub fn right_from(t: &[u32], p: usize) -> usize
     requires { ⌜ p + 3 ≤ length (now t) ⌝ }
     requires { ⌜ (leftsAt (now t) p ≤ maxLefts) × (rightsAt (now t) p ≤ maxRights) ⌝ }
     ensures { λ r. ⌜ r ≡ rightFrom (now (t .entry)) p ⌝ }
 {
     let lefts = t[p + 1] as usize;
-    p + 3 + 3 * lefts
+    left_from(t, p) + 3 * lefts
 }
 
 pub fn closing_from(t: &[u32], p: usize) -> usize

@@ -8,12 +8,14 @@ ghost use Rattle.circuit.specs.Table.{decode};
 ghost use Rattle.circuit.specs.Trim.{trimOf};
 ghost use Rattle.circuit.specs.WellFormed.{WellFormed};
 ghost use Rattle.rules.specs.RuleTable.{ruleAt};
-ghost use Rattle.rules.specs.WellFormed.{WellFormedRule};
-ghost use Rattle.rules.specs.Verdict.{kindOf, kindVerdict, failing, matchAt};
+ghost use Rattle.rules.specs.WellFormed.{WellFormedRule, WellFormedRules};
+ghost use Rattle.rules.specs.Verdict.{kindOf, kindVerdict, failing, matchAt, matchSite};
 use crate::ReferenceKind;
 use crate::SiteMatch;
+use crate::checked::site_match;
 use crate::matching::failing;
 use crate::matching::match_at;
+use crate::table::CONSTANTS;
 use circuit::checked::LAST_REFERENCE;
 use circuit::checked::MAX_TABLE;
 use circuit::checked::table_end;
@@ -27,7 +29,7 @@ fn kind_of(c: &[u32], v: u32) -> ReferenceKind
     match v {
         0..=1 => ReferenceKind::Constant,
         2..=LAST_REFERENCE => {
-            let first = c[0] + 2;
+            let first = c[0] + CONSTANTS;
             if v < first {
                 return ReferenceKind::Input;
             }
@@ -68,14 +70,14 @@ pub fn match_judged(c: &[u32], t: &[u32], p: usize, judged: u32, gate: u32, mask
     }
 }
 
-// The same on the trimmed circuit.
-pub fn match_trimmed(c: &[u32], t: &[u32], p: usize, judged: u32, gate: u32, mask: u32) -> SiteMatch
+// The first of the verdicts 1 to 4 that applies in the trimmed circuit, else 0.
+pub fn trimmed_verdict(c: &[u32], t: &[u32], rule: u32, gate: u32, mask: u32) -> u32
     requires { ⌜ WellFormed (now c) ⌝ }
-    requires { ⌜ WellFormedRule (now t) p ⌝ }
-    ensures { λ r. ⌜ r ≡ first (not (eqb judged 0)) (failing judged) (first (not (isGate (decode (trimOf (now (c .entry)))) gate)) (failing 3) (matchAt (decode (trimOf (now (c .entry)))) (ruleAt (now (t .entry)) p) gate mask)) ⌝ }
+    requires { ⌜ WellFormedRules (now t) ⌝ }
+    ensures { λ r. ⌜ r ≡ matchSite (decode (trimOf (now (c .entry)))) (now (t .entry)) rule gate mask .verdict ⌝ }
 {
     let mut work = [0u32; MAX_TABLE];
     trim(c, &mut work);
     let end = table_end(&work);
-    match_judged(&work[..end], t, p, judged, gate, mask)
+    site_match(&work[..end], t, rule, gate, mask).verdict
 }

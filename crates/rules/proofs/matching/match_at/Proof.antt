@@ -40,11 +40,14 @@ shared-slice-read-root c = search needs
 cast-root : tie.Need-cast-root
 cast-root c = search needs
 
+cast-root-2 : tie.Need-cast-root-2
+cast-root-2 c = search needs
+
 add-root : tie.Need-add-root
 add-root c = search needs
 
-cast-root-2 : tie.Need-cast-root-2
-cast-root-2 c = search needs
+cast-root-3 : tie.Need-cast-root-3
+cast-root-3 c = search needs
 
 add-root-2 : tie.Need-add-root-2
 add-root-2 c = search needs
@@ -94,8 +97,9 @@ match-at-spec =
     mul-root
     shared-slice-read-root
     cast-root
-    add-root
     cast-root-2
+    add-root
+    cast-root-3
     add-root-2
     sub-root
     add-b

@@ -7,15 +7,18 @@ use Rattle.circuit.specs.Table.{decode}
 use Rattle.rules.specs.Match.{matchGates}
 use Rattle.rules.specs.RuleTable.{leftsAt, ruleAt}
 use Rattle.rules.proofs.MatchLaws.{gates-more, gates-fail, gates-done}
-use Rattle.rules.proofs.RefusalLaws.{left-operands}
+use Rattle.rules.proofs.RefusalLaws.{left-operands-small}
 use Rattle.rules.proofs.matching.match_gates.Statement.{statement}
 use Rattle.rules.proofs.matching.match_gates.Tie as tie
 
 abbrev Inv-loop : tie.InvT-loop
-Inv-loop c t p mask b₀ first i₀ b i = (i ≤ leftsAt t p) × (matchGates (decode c) (ruleAt t p) mask i b ≡ matchGates (decode c) (ruleAt t p) mask (leftsAt t p) b₀)
+Inv-loop c t p mask b₀ from first i₀ b i = (i ≤ leftsAt t p) × (matchGates (decode c) (ruleAt t p) mask i b ≡ matchGates (decode c) (ruleAt t p) mask (leftsAt t p) b₀)
 
 abbrev μ-loop : tie.MeasureT-loop
-μ-loop c t p mask b₀ first i₀ b i = i
+μ-loop c t p mask b₀ from first i₀ b i = i
+
+left-from-requires : tie.Need-left-from-requires Inv-loop μ-loop
+left-from-requires c κs = search needs
 
 mul-first : tie.Need-mul-first Inv-loop μ-loop
 mul-first c = search needs
@@ -25,6 +28,9 @@ shared-slice-read-first c = search needs
 
 cast-first : tie.Need-cast-first Inv-loop μ-loop
 cast-first c = search needs
+
+cast-first-2 : tie.Need-cast-first-2 Inv-loop μ-loop
+cast-first-2 c = search needs
 
 add-first : tie.Need-add-first Inv-loop μ-loop
 add-first c = search needs
@@ -50,39 +56,37 @@ cast-k c = search needs
 shr-swap : tie.Need-shr-swap Inv-loop μ-loop
 shr-swap c = search needs
 
-add-match-gate : tie.Need-add-match-gate Inv-loop μ-loop
-add-match-gate c = search needs
-
 mul-match-gate : tie.Need-mul-match-gate Inv-loop μ-loop
 mul-match-gate c = search needs
+
+add-match-gate : tie.Need-add-match-gate Inv-loop μ-loop
+add-match-gate c = search needs
 
 add-match-gate-2 : tie.Need-add-match-gate-2 Inv-loop μ-loop
 add-match-gate-2 c = search needs
 
-add-match-gate-3 : tie.Need-add-match-gate-3 Inv-loop μ-loop
-add-match-gate-3 c = search needs
-
 match-gate-requires : tie.Need-match-gate-requires Inv-loop μ-loop
 match-gate-requires c κs =
     let l = c .before .before in
-    let s = c .before .before .before .before .before .before .before in
+    let s = c .before .before .before .before .before .before .before .before in
     let t = s .args .t .now in
     let p = s .args .p in
     let w = s .pre .1 in
     let h : l .loop .i - 1 < leftsAt t p = omega arith in
-    let o = left-operands t p w (l .loop .i - 1) h in
+    let f = c .before .before .before .before .before .left-from in
     let a = w .sized in
-    (s .pre .0, ((omega (arith, a), omega (arith, a)), omega (arith, o, a)))
+    (s .pre .0, ((omega (arith, a, f .ensures), omega (arith, a)), left-operands-small t p w (l .loop .i - 1) h (f .result) (f .ensures)))
 
 returns : tie.Need-returns Inv-loop μ-loop
 returns c =
     let l = c .before .before .before .before in
-    let s = c .before .before .before .before .before .before .before .before .before in
+    let s = c .before .before .before .before .before .before .before .before .before .before in
     let t = s .args .t .now in
     let p = s .args .p in
     let m = c .before .match-gate in
+    let f = c .before .before .before .before .before .before .before .left-from in
     gates-fail (decode (s .args .c .now)) t p (s .args .mask) (l .loop .i) (l .loop .b) (m .last .1 .1 .1 .1 .1 .0) (m .result) (c .before .before .before .loop-test .taken)
-    (l .loop .inv .0) (m .ensures) (not-true _ (c .if1 .taken))
+    (l .loop .inv .0) (f .result) (f .ensures) (m .ensures) (not-true _ (c .if1 .taken))
     ∙ l .loop .inv .1
 
 loop-less : tie.Need-loop-less Inv-loop μ-loop
@@ -91,13 +95,14 @@ loop-less c = search needs
 loop-again : tie.Need-loop-again Inv-loop μ-loop
 loop-again c =
     let l = c .before .before .before .before in
-    let s = c .before .before .before .before .before .before .before .before .before in
+    let s = c .before .before .before .before .before .before .before .before .before .before in
     let t = s .args .t .now in
     let p = s .args .p in
-    let m = c .before .match-gate in (
+    let m = c .before .match-gate in
+    let f = c .before .before .before .before .before .before .before .left-from in (
       omega arith,
       gates-more (decode (s .args .c .now)) t p (s .args .mask) (l .loop .i) (l .loop .b) (m .last .1 .1 .1 .1 .1 .0) (m .result) (c .before .before .before .loop-test .taken)
-          (l .loop .inv .0) (m .ensures) (not-false _ (c .if1 .left))
+          (l .loop .inv .0) (f .result) (f .ensures) (m .ensures) (not-false _ (c .if1 .left))
           ∙ l .loop .inv .1,
     )
 
@@ -110,9 +115,11 @@ match-gates-spec =
     (tie.spec
     Inv-loop
     μ-loop
+    left-from-requires
     mul-first
     shared-slice-read-first
     cast-first
+    cast-first-2
     add-first
     add-i
     mul-i
@@ -121,10 +128,9 @@ match-gates-spec =
     sub-i
     cast-k
     shr-swap
-    add-match-gate
     mul-match-gate
+    add-match-gate
     add-match-gate-2
-    add-match-gate-3
     match-gate-requires
     returns
     loop-less

@@ -1,19 +1,14 @@
 use mathlib.Core.List.{List}
 use mathlib.Core.Path.{sym, ap, _∙_}
-use mathlib.Core.Bool.{not}
 use Prim.Native.Nat.{ℕ}
-use lib.Dec.{eqb}
 use lib.ListN.{take, replicate}
 use borrow.Author.Needs.{needs}
-use Rattle.lists.specs.First.{first}
 use Rattle.circuit.specs.Table.{decode}
-use Rattle.circuit.specs.Path.{isGate}
-use Rattle.rules.specs.Verdict.{failing, matchAt}
-use Rattle.rules.specs.RuleTable.{ruleAt}
+use Rattle.rules.specs.Verdict.{matchSite}
 use Rattle.rules.specs.declared.SiteMatch.{SiteMatch}
 use Rattle.rules.proofs.CallLaws.{trimmed-fits, trimmed-front, trimmed-count, trimmed-well}
-use Rattle.rules.proofs.verdict.match_trimmed.Statement.{statement}
-use Rattle.rules.proofs.verdict.match_trimmed.Tie as tie
+use Rattle.rules.proofs.verdict.trimmed_verdict.Statement.{statement}
+use Rattle.rules.proofs.verdict.trimmed_verdict.Tie as tie
 
 slice-aggregate-trim : tie.Need-slice-aggregate-trim
 slice-aggregate-trim c = search needs
@@ -32,13 +27,13 @@ array-share-prefix-work c =
     let s = c .before .before .before .before .before .before .before in
     trimmed-fits (s .args .c .now) (replicate {A = ℕ} 6915 0) (c .before .before .before .trim .last .1 .0) (s .pre .0) (c .before .before .before .trim .ensures) (c .table-end .result) (c .table-end .ensures)
 
-slice-aggregate-match-judged : tie.Need-slice-aggregate-match-judged
-slice-aggregate-match-judged c =
+slice-aggregate-site-match : tie.Need-slice-aggregate-site-match
+slice-aggregate-site-match c =
     let s = c .before .before .before .before .before .before .before .before in
     sym (trimmed-count (s .args .c .now) (replicate {A = ℕ} 6915 0) (c .before .before .before .before .trim .last .1 .0) (s .pre .0) (c .before .before .before .before .trim .ensures) (c .before .table-end .result) (c .before .table-end .ensures))
 
-match-judged-requires : tie.Need-match-judged-requires
-match-judged-requires c κs =
+site-match-requires : tie.Need-site-match-requires
+site-match-requires c κs =
     let s = c .before .before .before .before .before .before .before .before in
     (trimmed-well (s .args .c .now) (replicate {A = ℕ} 6915 0) (c .before .before .before .before .trim .last .1 .0) (s .pre .0) (c .before .before .before .before .trim .ensures) (c .before .table-end .result) (c .before .table-end .ensures), s .pre .1)
 
@@ -48,15 +43,13 @@ returns c =
     let a = s .args in
     let d = c .before .before .before .before .before .trim .last .1 .0 in
     let n = c .before .before .table-end .result in
-    let f : List ℕ → SiteMatch =
-    λ k. first (not (eqb (a .judged) 0)) (failing (a .judged))
-    (first (not (isGate (decode k) (a .gate))) (failing 3) (matchAt (decode k) (ruleAt (a .t .now) (a .p)) (a .gate) (a .mask))) in
+    let f : List ℕ → ℕ = λ k. matchSite (decode k) (a .t .now) (a .rule) (a .gate) (a .mask) .verdict in
     _∙_ {b = f (take n d)}
-    (c .match-judged .ensures)
+    (ap (λ m. m .verdict) (c .site-match .ensures))
     (ap f (trimmed-front (a .c .now) (replicate {A = ℕ} 6915 0) d (s .pre .0) (c .before .before .before .before .before .trim .ensures) n (c .before .before .table-end .ensures)))
 
-pub match-trimmed-spec : {M : Type 1} → statement M
-match-trimmed-spec =
+pub trimmed-verdict-spec : {M : Type 1} → statement M
+trimmed-verdict-spec =
     tie.close
     (tie.spec
     slice-aggregate-trim
@@ -64,6 +57,6 @@ match-trimmed-spec =
     slice-aggregate-table-end
     table-end-requires
     array-share-prefix-work
-    slice-aggregate-match-judged
-    match-judged-requires
+    slice-aggregate-site-match
+    site-match-requires
     returns)

@@ -1,7 +1,7 @@
 use mathlib.Core.Path.{refl}
 use Rattle.lines.specs.Text.{isPartial}
-use Rattle.circuit.proofs.checking.is_partial.Statement.{statement}
-use Rattle.circuit.proofs.checking.is_partial.Tie as tie
+use Rattle.circuit.proofs.checked.is_partial.Statement.{statement}
+use Rattle.circuit.proofs.checked.is_partial.Tie as tie
 
 returns : tie.Need-returns
 unfolding isPartial
