@@ -22,6 +22,7 @@ use crate::table::MAX_RULES;
 use crate::table::MAX_SITES;
 use crate::table::XOR;
 use crate::table::closing_from;
+use crate::table::left_from;
 use crate::table::next_rule;
 use crate::table::right_from;
 use crate::table::rules_from;
@@ -95,7 +96,7 @@ fn rule_kinds_ok(t: &[u32], p: usize) -> bool
     let lefts = t[p + 1] as usize;
     let rights = t[p + 2] as usize;
     let closing = closing_from(t, p);
-    let left_ok = gate_kinds_ok(t, p + 3, lefts);
+    let left_ok = gate_kinds_ok(t, left_from(t, p), lefts);
     let right_ok = gate_kinds_ok(t, right_from(t, p), rights);
     left_ok & (right_ok & ((t[closing] == CLOSING) & (t[closing + 2] == 0)))
 }
@@ -125,7 +126,7 @@ fn references_ok(t: &[u32], p: usize) -> bool
     let lefts = t[p + 1] as usize;
     let rights = t[p + 2];
     let closing = t[closing_from(t, p) + 1];
-    let left_ok = operands_ok(t, p + 3, lefts, holes);
+    let left_ok = operands_ok(t, left_from(t, p), lefts, holes);
     let right_ok = operands_ok(t, right_from(t, p), rights as usize, holes);
     left_ok & (right_ok & (closing < holes + CONSTANTS + rights))
 }
@@ -150,9 +151,10 @@ fn uses_ok(t: &[u32], p: usize) -> bool
     ensures { λ r. ⌜ r ≡ usesOk (ruleAt (now (t .entry)) p) ⌝ }
 {
     let lefts = t[p + 1];
+    let from = left_from(t, p);
     let below_root = t[p] + lefts - 1;
     for i in 0..below_root {
-        if !is_used(t, p + 3, lefts as usize, i + CONSTANTS) {
+        if !is_used(t, from, lefts as usize, i + CONSTANTS) {
             return false;
         }
     }

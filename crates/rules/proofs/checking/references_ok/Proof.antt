@@ -9,7 +9,7 @@ use Rattle.circuit.specs.Each.{allGates}
 use Rattle.circuit.specs.Table.{linesOf}
 use Rattle.circuit.specs.Circuit.{firstGate}
 use Rattle.circuit.proofs.TableLaws.{lines-length}
-use Rattle.rules.specs.RuleTable.{holesAt, rightsAt, rightFrom}
+use Rattle.rules.specs.RuleTable.{holesAt, leftsAt, rightsAt, rightFrom}
 use Rattle.rules.proofs.checking.references_ok.Statement.{statement}
 use Rattle.rules.proofs.checking.references_ok.Tie as tie
 
@@ -52,8 +52,8 @@ mul-closing c = search needs
 shared-slice-read-closing : tie.Need-shared-slice-read-closing
 shared-slice-read-closing c = search needs
 
-add-operands-ok : tie.Need-add-operands-ok
-add-operands-ok c = search needs
+left-from-requires : tie.Need-left-from-requires
+left-from-requires c κs = search needs
 
 operands-ok-requires : tie.Need-operands-ok-requires
 operands-ok-requires c κs = search needs
@@ -75,12 +75,13 @@ add-result-2 c = search needs
 
 returns : tie.Need-returns
 returns c =
-    let s = c .before .before .before .before .before .before .before .before .before .args in
+    let s = c .before .before .before .before .before .before .before .before .before .before .args in
     let t = s .t .now in
     let p = s .p in
     let right = ap (λ q. allGates operandsBelow (firstGate (holesAt t p)) (linesOf (rightsAt t p) (drop q t))) (c .before .right-from .ensures) in
-    let closing = ap₂ (λ q n. ltb (getD t (q + 1) 0) (firstGate (holesAt t p) + n)) (c .before .before .before .before .closing-from .ensures) (sym (lines-length (rightsAt t p) (drop (rightFrom t p) t))) in
-    ap₂ _&&_ (c .before .before .operands-ok .ensures) (ap₂ _&&_ (c .operands-ok2 .ensures ∙ right) closing)
+    let left = ap (λ q. allGates operandsBelow (firstGate (holesAt t p)) (linesOf (leftsAt t p) (drop q t))) (c .before .before .before .left-from .ensures) in
+    let closing = ap₂ (λ q n. ltb (getD t (q + 1) 0) (firstGate (holesAt t p) + n)) (c .before .before .before .before .before .closing-from .ensures) (sym (lines-length (rightsAt t p) (drop (rightFrom t p) t))) in
+    ap₂ _&&_ (c .before .before .operands-ok .ensures ∙ left) (ap₂ _&&_ (c .operands-ok2 .ensures ∙ right) closing)
 
 pub references-ok-spec : {M : Type 1} → statement M
 references-ok-spec =
@@ -99,7 +100,7 @@ references-ok-spec =
     add-closing
     mul-closing
     shared-slice-read-closing
-    add-operands-ok
+    left-from-requires
     operands-ok-requires
     right-from-requires
     cast-operands-ok

@@ -5,7 +5,7 @@ use borrow.Author.Needs.{needs}
 use Rattle.circuit.specs.Refusal.{hasGateKind, isClosing}
 use Rattle.circuit.specs.Each.{allGates}
 use Rattle.circuit.specs.Table.{lineAt, linesOf}
-use Rattle.rules.specs.RuleTable.{rightsAt}
+use Rattle.rules.specs.RuleTable.{leftsAt, rightsAt}
 use Rattle.rules.proofs.checking.rule_kinds_ok.Statement.{statement}
 use Rattle.rules.proofs.checking.rule_kinds_ok.Tie as tie
 
@@ -36,8 +36,8 @@ cast-rights c = search needs
 closing-from-requires : tie.Need-closing-from-requires
 closing-from-requires c κs = search needs
 
-add-gate-kinds-ok : tie.Need-add-gate-kinds-ok
-add-gate-kinds-ok c = search needs
+left-from-requires : tie.Need-left-from-requires
+left-from-requires c κs = search needs
 
 gate-kinds-ok-requires : tie.Need-gate-kinds-ok-requires
 gate-kinds-ok-requires c κs = search needs
@@ -65,12 +65,13 @@ shared-slice-read-result-2 c = search needs
 
 returns : tie.Need-returns
 returns c =
-    let s = c .before .before .before .before .before .before .before .before .before .args in
+    let s = c .before .before .before .before .before .before .before .before .before .before .args in
     let t = s .t .now in
     let p = s .p in
     let right = ap (λ q. allGates hasGateKind 0 (linesOf (rightsAt t p) (drop q t))) (c .before .before .before .right-from .ensures) in
-    let closing = ap (λ q. isClosing 0 (lineAt t q)) (c .before .before .before .before .before .closing-from .ensures) in
-    ap₂ _&&_ (c .before .before .before .before .gate-kinds-ok .ensures) (ap₂ _&&_ (c .before .before .gate-kinds-ok2 .ensures ∙ right) closing)
+    let left = ap (λ q. allGates hasGateKind 0 (linesOf (leftsAt t p) (drop q t))) (c .before .before .before .before .before .left-from .ensures) in
+    let closing = ap (λ q. isClosing 0 (lineAt t q)) (c .before .before .before .before .before .before .closing-from .ensures) in
+    ap₂ _&&_ (c .before .before .before .before .gate-kinds-ok .ensures ∙ left) (ap₂ _&&_ (c .before .before .gate-kinds-ok2 .ensures ∙ right) closing)
 
 pub rule-kinds-ok-spec : {M : Type 1} → statement M
 rule-kinds-ok-spec =
@@ -85,7 +86,7 @@ rule-kinds-ok-spec =
     shared-slice-read-rights
     cast-rights
     closing-from-requires
-    add-gate-kinds-ok
+    left-from-requires
     gate-kinds-ok-requires
     right-from-requires
     gate-kinds-ok-requires-2

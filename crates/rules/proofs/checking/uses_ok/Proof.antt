@@ -8,6 +8,7 @@ use borrow.Author.Needs.{needs}
 use borrow.Author.Tests.{not-true, not-false}
 use Rattle.lists.specs.Below.{allBelow}
 use Rattle.lists.proofs.Below.{below-none, below-turn, below-fails}
+use Rattle.circuit.specs.Table.{linesOf}
 use Rattle.circuit.proofs.TableLaws.{lines-length}
 use Rattle.rules.specs.RuleRefusal.{isUsed}
 use Rattle.rules.specs.RuleTable.{holesAt, leftsAt, leftFrom, ruleAt}
@@ -19,10 +20,16 @@ abbrev used : (t : List ℕ) (p i : ℕ) → Bool
 used t p i = isUsed (i + 2) (ruleAt t p .lefts)
 
 abbrev Inv-loop : tie.InvT-loop
-Inv-loop t p lefts below-root i₀ i = (i ≤ below-root) × (allBelow (used t p) i ≡ true)
+Inv-loop t p lefts from below-root i₀ i = (i ≤ below-root) × (allBelow (used t p) i ≡ true)
 
 abbrev μ-loop : tie.MeasureT-loop
-μ-loop t p lefts below-root i₀ i = below-root - i
+μ-loop t p lefts from below-root i₀ i = below-root - i
+
+-- what was tested, at the place where the left gate lines were found to begin
+tested : (c : tie.After-is-used Inv-loop μ-loop) → used (c .before .before .before .before .before .before .before .args .t .now) (c .before .before .before .before .before .before .before .args .p) (c .before .before .loop .i) ≡ c .is-used .result
+tested c =
+    let s = c .before .before .before .before .before .before .before .args in
+    ap (λ q. isUsed (c .before .before .loop .i + 2) (linesOf (leftsAt (s .t .now) (s .p)) (drop q (s .t .now)))) (sym (c .before .before .before .before .left-from .ensures)) ∙ sym (c .is-used .ensures)
 
 add-lefts : tie.Need-add-lefts Inv-loop μ-loop
 add-lefts c = search needs
@@ -32,6 +39,9 @@ mul-lefts c = search needs
 
 shared-slice-read-lefts : tie.Need-shared-slice-read-lefts Inv-loop μ-loop
 shared-slice-read-lefts c = search needs
+
+left-from-requires : tie.Need-left-from-requires Inv-loop μ-loop
+left-from-requires c κs = search needs
 
 mul-below-root : tie.Need-mul-below-root Inv-loop μ-loop
 mul-below-root c = search needs
@@ -47,17 +57,14 @@ sub-below-root c = search needs
 
 loop-holds : tie.Need-loop-holds Inv-loop μ-loop
 loop-holds c =
-    let s = c .before .before .before .args in
+    let s = c .before .before .before .before .args in
     (search needs, below-none (used (s .t .now) (s .p)))
-
-add-is-used : tie.Need-add-is-used Inv-loop μ-loop
-add-is-used c = search needs
 
 cast-is-used : tie.Need-cast-is-used Inv-loop μ-loop
 cast-is-used c = search needs
 
-add-is-used-2 : tie.Need-add-is-used-2 Inv-loop μ-loop
-add-is-used-2 c = search needs
+add-is-used : tie.Need-add-is-used Inv-loop μ-loop
+add-is-used c = search needs
 
 is-used-requires : tie.Need-is-used-requires Inv-loop μ-loop
 is-used-requires c κs = search needs
@@ -65,9 +72,9 @@ is-used-requires c κs = search needs
 returns : tie.Need-returns Inv-loop μ-loop
 returns c =
     let l = c .before .before .before in
-    let t = l .before .before .before .before .args .t .now in
-    let p = l .before .before .before .before .args .p in
-    sym (below-fails (used t p) (l .loop .i) (holesAt t p + length (ruleAt t p .lefts) - 1) (omega (arith, lines-length (leftsAt t p) (drop (leftFrom t p) t))) (sym (c .before .is-used .ensures) ∙ not-true _ (c .if1 .taken)))
+    let t = l .before .before .before .before .before .args .t .now in
+    let p = l .before .before .before .before .before .args .p in
+    sym (below-fails (used t p) (l .loop .i) (holesAt t p + length (ruleAt t p .lefts) - 1) (omega (arith, lines-length (leftsAt t p) (drop (leftFrom t p) t))) (tested (c .before) ∙ not-true _ (c .if1 .taken)))
 
 add-i : tie.Need-add-i Inv-loop μ-loop
 add-i c = search needs
@@ -78,14 +85,14 @@ loop-less c = search needs
 loop-again : tie.Need-loop-again Inv-loop μ-loop
 loop-again c =
     let l = c .before .before .before in
-    let s = l .before .before .before .before .args in
-    (search needs, below-turn (used (s .t .now) (s .p)) (l .loop .i) (l .loop .inv .1) (sym (c .before .is-used .ensures) ∙ not-false _ (c .if1 .left)))
+    let s = l .before .before .before .before .before .args in
+    (search needs, below-turn (used (s .t .now) (s .p)) (l .loop .i) (l .loop .inv .1) (tested (c .before) ∙ not-false _ (c .if1 .left)))
 
 returns-2 : tie.Need-returns-2 Inv-loop μ-loop
 returns-2 c =
     let l = c .before in
-    let t = l .before .before .before .before .args .t .now in
-    let p = l .before .before .before .before .args .p in
+    let t = l .before .before .before .before .before .args .t .now in
+    let p = l .before .before .before .before .before .args .p in
     let e : holesAt t p + length (ruleAt t p .lefts) - 1 ≡ l .loop .i = omega (arith, lines-length (leftsAt t p) (drop (leftFrom t p) t)) in
     sym (ap (allBelow (used t p)) e ∙ l .loop .inv .1)
 
@@ -98,14 +105,14 @@ uses-ok-spec =
     add-lefts
     mul-lefts
     shared-slice-read-lefts
+    left-from-requires
     mul-below-root
     shared-slice-read-below-root
     add-below-root
     sub-below-root
     loop-holds
-    add-is-used
     cast-is-used
-    add-is-used-2
+    add-is-used
     is-used-requires
     returns
     add-i
