@@ -1,0 +1,54 @@
+use mathlib.Core.Path.{sym}
+use native.Mathlib.Omega.{arith}
+use lib.Seq.{length-take-le}
+use borrow.Author.Needs.{needs}
+use Rattle.lines.specs.Calls.{reading}
+use Rattle.lines.specs.Line.{isLine, readLine}
+use Rattle.lines.proofs.CallLaws.{Converted}
+use Rattle.cases.proofs.RecodingLaws.{read-so, room-so}
+use Rattle.cases.proofs.recoding.read_numbers.Statement.{statement}
+use Rattle.cases.proofs.recoding.read_numbers.Tie as tie
+
+read-requires : tie.Need-read-requires
+read-requires c κs = search needs
+
+enum-known-lines : tie.Need-enum-known-lines
+enum-known-lines c = search needs
+
+-- what the reading has left
+so : (c : tie.After-known-told) → let s = c .before .before .before .before .before .before .before .before .before .args in
+    Converted 19 3 isLine readLine (s .text .now) (s .table .now) (reading (s .text .now) (s .table .now) .buffer) (c .before .lines .given .0 .0)
+so c = read-so _ _ _ _ (c .before .before .before .before .before .read .ensures) _ (c .before .lines .given .1)
+
+mul-result : tie.Need-mul-result
+mul-result c = omega (arith, so c .valid .whole .long)
+
+enum-told : tie.Need-enum-told
+enum-told c = search needs
+
+same-length : tie.Need-same-length
+same-length c = search needs
+
+returns : tie.Need-returns
+returns c =
+    let h = room-so _ _ _ _ (c .before .before .before .before .before .read .ensures) _ (c .before .lines .given .1) in
+    (h, sym (length-take-le _ _ h))
+
+same-length-2 : tie.Need-same-length-2
+same-length-2 c = search needs
+
+returns-2 : tie.Need-returns-2
+returns-2 c = search needs
+
+pub read-numbers-spec : {M : Type 1} → statement M
+read-numbers-spec =
+    tie.close
+    (tie.spec
+    read-requires
+    enum-known-lines
+    mul-result
+    enum-told
+    same-length
+    returns
+    same-length-2
+    returns-2)

@@ -1,0 +1,83 @@
+// Tries cases. Each is three files that arguments name, a circuit, rules and sites, of which any may be missing. The first is tried as a
+// text of lines, read and written back, and as a circuit, measured and evaluated; the rules are judged; and each site is matched.
+use inspecting::print_evaluations;
+use inspecting::print_pair;
+use libc::STDOUT_FILENO;
+use loading::load;
+use loading::read_file;
+use matching::print_judgements;
+use matching::print_matches;
+use printing::print_answer;
+use recoding::recode;
+
+mod inspecting;
+mod loading;
+mod matching;
+mod printing;
+mod recoding;
+
+fn print_name(i: usize) {
+    let mut name = io::buffer();
+    let length = os::arg(i, &mut name);
+    io::write_all(STDOUT_FILENO, &name[..length]);
+}
+
+// Validates a text, and reads and writes it. The table has room for four lines only, so that a longer text is refused with 2.
+fn print_recoding(text: &[u8]) {
+    let mut table = [0u32; 12];
+    let mut out = [0u8; 76];
+    io::write_all(STDOUT_FILENO, b": validate");
+    print_answer(lines::validate(text));
+    io::write_all(STDOUT_FILENO, b", read and write");
+    print_answer(recode(text, &mut table, &mut out));
+}
+
+fn try_text(i: usize) {
+    let mut text = [0u8; 262144];
+    let length = load(i, &mut text);
+    print_recoding(&text[..length]);
+}
+
+// Measures and evaluates a text that reads as a table, if only as one that is refused.
+fn try_circuit(i: usize) {
+    let mut table = [0u32; 10347];
+    let count = read_file(i, &mut table);
+    if 0 < count {
+        io::write_all(STDOUT_FILENO, b", measure");
+        print_pair(&table[..count]);
+        io::write_all(STDOUT_FILENO, b", evaluate");
+        print_evaluations(&table[..count]);
+    }
+}
+
+// Judges the rules, if there are any, and matches the sites.
+fn try_sites(i: usize, j: usize, k: usize) {
+    let mut rules = [0u32; 6915];
+    let patterns = read_file(j, &mut rules);
+    if 0 < patterns {
+        let mut circuit = [0u32; 6915];
+        let gates = read_file(i, &mut circuit);
+        let mut sites = [0u32; 1539];
+        let places = read_file(k, &mut sites);
+        io::write_all(STDOUT_FILENO, b", judge");
+        print_judgements(&rules[..patterns]);
+        io::write_all(STDOUT_FILENO, b", match");
+        print_matches(&circuit[..gates], &rules[..patterns], &sites[..places]);
+    }
+}
+
+// The case of the files that arguments i, j and k name.
+fn try_case(i: usize, j: usize, k: usize) {
+    print_name(i);
+    try_text(i);
+    try_circuit(i);
+    try_sites(i, j, k);
+    io::write_all(STDOUT_FILENO, b"\n");
+}
+
+fn main() {
+    let cases = os::arg_count() / 3;
+    for n in 0..cases {
+        try_case(3 * n + 1, 3 * n + 2, 3 * n + 3);
+    }
+}
