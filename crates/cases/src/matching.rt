@@ -48,7 +48,13 @@ fn print_match(circuit: &[u32], rules: &[u32], rule: u32, gate: u32, mask: u32) 
 pub fn print_matches(circuit: &[u32], rules: &[u32], sites: &[u32]) {
     let lines = sites.len() / 3;
     for i in 1..lines {
-        print_match(circuit, rules, sites[3 * i], sites[3 * i + 1], sites[3 * i + 2]);
+        print_match(
+            circuit,
+            rules,
+            sites[3 * i],
+            sites[3 * i + 1],
+            sites[3 * i + 2],
+        );
     }
     print_match(circuit, rules, 1, LARGEST, LARGEST);
     print_match(circuit, rules, LARGEST, LARGEST, LARGEST);

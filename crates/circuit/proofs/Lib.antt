@@ -19,4 +19,5 @@ pub mod CriticalLaws
 pub mod TrimmingLaws
 pub mod MeasureLaws
 pub mod TrimTheorems
+pub mod FrontLaws
 pub mod EvaluateLaws

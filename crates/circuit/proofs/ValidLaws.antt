@@ -15,8 +15,10 @@ use Rattle.circuit.specs.Refusal.{hasGateKind, isClosing, operandsBelow,
 use Rattle.circuit.specs.WellFormed.{Sized, WellFormed}
 use Rattle.circuit.specs.Valuation.{Ordered}
 use Rattle.circuit.specs.Path.{isAmong}
+use Rattle.circuit.specs.Theorems.{WellFormedIsCircuit}
 use Rattle.circuit.proofs.TableLaws.{gates-length, outputs-length, refs-decode}
 use Rattle.circuit.proofs.EachLaws.{all-each, each-all, each-map}
+use Rattle.circuit.proofs.RefusalLaws.{either}
 use Rattle.circuit.proofs.EncodingLaws.{encode-gate-lines, encode-closing-lines, encode-long}
 
 -- a circuit whose gates and outputs are as refusals 6 and 7 want them
@@ -77,6 +79,11 @@ valid-decode t w =
       kinds = all-each hasGateKind _ (gateLines t) (w .gate-kinds);
       outputs-below = λ o e. rw (refs-decode t) (below-of (refs t) 0 (closingLines t) (all-each (referenceBelow (refs t)) 0 (closingLines t) (w .closing-references)) o e);
     }
+
+pub well-formed-is-circuit : WellFormedIsCircuit
+well-formed-is-circuit t w =
+    let v = valid-decode t w in
+    (v .ordered, each-map _ (gateLines t) (v .kinds) (λ m g h e. either (g .kind) e), λ o e. rw (← refs-decode t) (v .outputs-below o e))
 
 pub limited-decode : (t : List ℕ) → Sized t → Limited (decode t)
 limited-decode t s =

@@ -43,10 +43,10 @@ firstGate inputs = inputs + 2
 abbrev pub references : Circuit → ℕ
 references c = firstGate (c .inputs) + length (c .gates)
 
--- what stands where there is no gate
+-- what a list of gates gives beyond its end
 abbrev pub noGate : Gate
 noGate = record { kind = 0; left = 0; right = 0 }
 
--- the gate of reference v, where v is one of a gate
+-- the gate of reference v; asked only of references that are gates
 abbrev pub gateAt : Circuit → (v : ℕ) → Gate
 gateAt c v = getD (c .gates) (v - firstGate (c .inputs)) noGate

@@ -20,6 +20,11 @@ isGate c v = leb (firstGate (c .inputs)) v && ltb v (references c)
 abbrev pub isOperand : ℕ → Gate → Bool
 isOperand v g = eqb v (g .left) || eqb v (g .right)
 
+-- whether some gate of a list uses v
+unfoldable pub isUsed : (v : ℕ) → List Gate → Bool
+isUsed v [] = false
+isUsed v (g ∷ gs) = isOperand v g || isUsed v gs
+
 -- A path from v is the list of the gates that it goes up through: each has the reference before it as an operand, and the
 -- last, or v itself if there is none, is an output.
 unfoldable pub isPath : Circuit → (v : ℕ) → (path : List ℕ) → Bool

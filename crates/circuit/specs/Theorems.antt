@@ -1,11 +1,11 @@
 -- The theorems about circuits, as statements; each is proved under its name in proofs/.
 use Prim.Native.Nat.{ℕ, _+_, _≤_, _<_}
 use mathlib.Core.Path.{_≡_}
-use mathlib.Core.Logic.{_↔_}
+use mathlib.Core.Logic.{_↔_, _⊎_}
 use mathlib.Core.Bool.{true}
 use mathlib.Core.List.{List}
 use lib.ListN.{length, getD}
-use Rattle.circuit.specs.Circuit.{Gate, Circuit, firstGate, gateAt}
+use Rattle.circuit.specs.Circuit.{Gate, Circuit, xorKind, andKind, firstGate, gateAt}
 use Rattle.circuit.specs.Table.{inputs, gates, outputs, refs, gateLines, decode, encode}
 use Rattle.circuit.specs.Refusal.{refusal}
 use Rattle.circuit.specs.WellFormed.{WellFormed}
@@ -14,7 +14,7 @@ use Rattle.circuit.specs.Fold.{foldGates}
 use Rattle.circuit.specs.Valuation.{Ordered, Solves}
 use Rattle.circuit.specs.Evaluation.{evaluate}
 use Rattle.circuit.specs.Depth.{depth, circuitDepth}
-use Rattle.circuit.specs.Path.{isGate, isPath, andsOn}
+use Rattle.circuit.specs.Path.{isAmong, isGate, isPath, andsOn}
 use Rattle.circuit.specs.ReverseDepth.{isLive, above}
 use Rattle.circuit.specs.Critical.{criticalCount}
 use Rattle.circuit.specs.Trim.{renameGate, rank, isKept, trimOf}
@@ -26,6 +26,15 @@ use Rattle.circuit.specs.MeasureCall.{measuring}
 -- A table is well formed exactly if it is not refused.
 abbrev pub AcceptedIsWellFormed : Type 0
 AcceptedIsWellFormed = (t : List ℕ) → (refusal t ≡ 0) ↔ WellFormed t
+
+-- 01, Circuits, 2 to 5, of such a table: each gate is an XOR or an AND whose operands are below it, and each output is one of the
+-- circuit's references.
+abbrev pub WellFormedIsCircuit : Type 0
+WellFormedIsCircuit =
+    (t : List ℕ) → WellFormed t
+    → Ordered (firstGate (inputs t)) (gateLines t)
+    × EachGate (λ m g. (g .kind ≡ xorKind) ⊎ (g .kind ≡ andKind)) (firstGate (inputs t)) (gateLines t)
+    × ((o : ℕ) → isAmong o (decode t .outputs) ≡ true → o < refs t)
 
 -- A circuit's table says the circuit.
 abbrev pub DecodeAfterEncode : Type 0
@@ -51,7 +60,7 @@ FoldKeepsStart =
     × ((r : ℕ) → r < length start → getD (foldGates op z gs start) r z ≡ getD start r z)
 
 -- Two valuations agree along a renaming ρ on all wanted references, if they agree on those below the gates, wanted gates have wanted
--- operands, and both give each wanted gate what `op` gives.
+-- operands, the first valuation gives every gate what `op` gives, and the second each wanted one.
 abbrev pub Simulation : Type 1
 Simulation =
     (A : Type 0) (op : ℕ → A → A → A) (Wanted : ℕ → Type 0) (ρ : ℕ → ℕ) (v v′ : ℕ → A) (n : ℕ) (gs : List Gate)

@@ -1,8 +1,10 @@
 // What crates of this repository call: the check of a table, and work on tables that it has let pass. A `requires` here is asked by the
 // prover of every caller, and no other language reaches these functions.
 ghost use mathlib.Core.Path.{_≡_};
+ghost use mathlib.Core.List.{[], _∷_};
 ghost use Prim.Native.Nat.{_+_, _*_, _<_, _≤_};
 ghost use lib.ListN.{length, getD};
+ghost use lib.Seq.{sets};
 ghost use Rattle.lines.specs.Calls.{over};
 ghost use Rattle.lines.specs.Text.{isPartial};
 ghost use Rattle.circuit.specs.Circuit.{firstGate};
@@ -10,7 +12,7 @@ ghost use Rattle.circuit.specs.Critical.{criticalCount};
 ghost use Rattle.circuit.specs.Depth.{depths, circuitDepth};
 ghost use Rattle.circuit.specs.Refusal.{refusal};
 ghost use Rattle.circuit.specs.ReverseDepth.{reverseDepths};
-ghost use Rattle.circuit.specs.Table.{inputs, gates, refs, gatesFrom, tableEnd, decode};
+ghost use Rattle.circuit.specs.Table.{inputs, gates, outputs, refs, gatesFrom, closingsFrom, tableEnd, decode};
 ghost use Rattle.circuit.specs.Trim.{trimOf};
 ghost use Rattle.circuit.specs.WellFormed.{WellFormed};
 use crate::checking::closing_kinds_ok;
@@ -25,6 +27,8 @@ use crate::depth::clear;
 use crate::depth::output_depth;
 use crate::reverse_depth::mark_outputs;
 use crate::reverse_depth::raise_gates;
+pub use crate::table::CLOSING;
+pub use crate::table::CONSTANTS;
 use crate::table::MAX_GATES;
 use crate::table::MAX_OUTPUTS;
 use crate::table::MAX_REFERENCES;
@@ -32,6 +36,7 @@ use crate::table::closings_from;
 use crate::table::gate_kind;
 use crate::table::gate_left;
 use crate::table::gate_right;
+pub use crate::table::gates_from;
 use crate::trimming::rank_references;
 use crate::trimming::write_trimmed;
 
@@ -151,6 +156,26 @@ pub fn gate_line(t: &[u32], i: usize) -> GateLine
         left: left,
         right: right,
     }
+}
+
+// The reference of output i.
+pub fn output_reference(t: &[u32], i: usize) -> usize
+    requires { ⌜ WellFormed (now t) ⌝ }
+    requires { ⌜ i < outputs (now t) ⌝ }
+    ensures { λ r. ⌜ r ≡ getD (now (t .entry)) (closingsFrom (now (t .entry)) + 3 * i + 1) 0 ⌝ }
+    ensures { λ r. ⌜ r < refs (now (t .entry)) ⌝ }
+{
+    t[closings_from(t) + 3 * i + 1] as usize
+}
+
+// A line of three numbers from `at` on.
+pub fn write_line(out: &mut [u32], at: usize, a: u32, b: u32, c: u32)
+    requires { ⌜ at + 3 ≤ length (now out) ⌝ }
+    ensures { λ _. ⌜ now (out .exit) ≡ sets (now (out .entry)) at (a ∷ b ∷ c ∷ []) ⌝ }
+{
+    out[at] = a;
+    out[at + 1] = b;
+    out[at + 2] = c;
 }
 
 // Where the table ends that the buffer t begins with.

@@ -7,11 +7,11 @@ ghost use Rattle.circuit.specs.Circuit.{maxGates, firstGate};
 ghost use Rattle.circuit.specs.Table.{inputs, refs, decode};
 ghost use Rattle.circuit.specs.WellFormed.{WellFormed};
 ghost use Rattle.circuit.specs.Depth.{plusAnd, depthOp, startDepths, depths, circuitDepth};
+use crate::checked::output_reference;
 use crate::table::AND;
 use crate::table::gate_kind;
 use crate::table::gate_left;
 use crate::table::gate_right;
-use crate::table::output_reference;
 
 pub fn larger(a: u32, b: u32) -> u32
     ensures { λ r. ⌜ r ≡ max a b ⌝ }

@@ -7,12 +7,12 @@ ghost use Rattle.circuit.specs.Circuit.{maxGates, firstGate};
 ghost use Rattle.circuit.specs.Table.{inputs, gates, refs, gatesFrom, lineAt, gateLines, decode};
 ghost use Rattle.circuit.specs.WellFormed.{WellFormed};
 ghost use Rattle.circuit.specs.ReverseDepth.{markOutputs, raise, raiseOperands, raiseGates};
+use crate::checked::output_reference;
 use crate::depth::larger;
 use crate::depth::plus_and;
 use crate::table::gate_kind;
 use crate::table::gate_left;
 use crate::table::gate_right;
-use crate::table::output_reference;
 
 // Place v raised to x, where it is lower.
 fn raise_place(d: &mut [u32], v: usize, x: u32)

@@ -3,7 +3,7 @@ ghost use mathlib.Core.Path.{_≡_};
 ghost use Prim.Native.Nat.{_+_, _*_, _<_, _≤_};
 ghost use lib.ListN.{length, getD};
 ghost use Rattle.circuit.specs.Circuit.{firstGate};
-ghost use Rattle.circuit.specs.Table.{inputs, gates, outputs, refs, gatesFrom, closingsFrom};
+ghost use Rattle.circuit.specs.Table.{inputs, gates, gatesFrom, closingsFrom};
 ghost use Rattle.circuit.specs.WellFormed.{WellFormed};
 
 pub const MAX_INPUTS: u32 = 512;
@@ -65,14 +65,4 @@ pub fn gate_right(t: &[u32], i: usize) -> usize
     ensures { λ r. ⌜ r < firstGate (inputs (now (t .entry))) + i ⌝ }
 {
     t[gates_from(t) + 3 * i + 2] as usize
-}
-
-// The reference of output i.
-pub fn output_reference(t: &[u32], i: usize) -> usize
-    requires { ⌜ WellFormed (now t) ⌝ }
-    requires { ⌜ i < outputs (now t) ⌝ }
-    ensures { λ r. ⌜ r ≡ getD (now (t .entry)) (closingsFrom (now (t .entry)) + 3 * i + 1) 0 ⌝ }
-    ensures { λ r. ⌜ r < refs (now (t .entry)) ⌝ }
-{
-    t[closings_from(t) + 3 * i + 1] as usize
 }

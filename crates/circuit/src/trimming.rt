@@ -9,12 +9,13 @@ ghost use Rattle.circuit.specs.Table.{inputs, gates, outputs, refs, gate
 ghost use Rattle.circuit.specs.WellFormed.{WellFormed};
 ghost use Rattle.circuit.specs.ReverseDepth.{reverseDepths};
 ghost use Rattle.circuit.specs.Trim.{renameGate, rank, ranks, keepGates, isKept, trimOf};
+use crate::checked::output_reference;
+use crate::checked::write_line;
 use crate::table::CLOSING;
 use crate::table::gate_kind;
 use crate::table::gate_left;
 use crate::table::gate_right;
 use crate::table::gates_from;
-use crate::table::output_reference;
 
 // The new number of each reference into the front of `names`, where u begins with the reverse depths. The result is how many gates
 // are kept.
@@ -40,15 +41,6 @@ pub fn rank_references(t: &[u32], u: &[u32], names: &mut [u32]) -> u32
         }
     }
     next - (t[0] + 2)
-}
-
-fn write_line(out: &mut [u32], at: usize, a: u32, b: u32, c: u32)
-    requires { ⌜ at + 3 ≤ length (now out) ⌝ }
-    ensures { λ _. ⌜ now (out .exit) ≡ sets (now (out .entry)) at (a ∷ b ∷ c ∷ []) ⌝ }
-{
-    out[at] = a;
-    out[at + 1] = b;
-    out[at + 2] = c;
 }
 
 // Gate i's line, with the new numbers of its operands.

@@ -10,7 +10,7 @@ use Rattle.lines.specs.Line.{isRow, isLine, writeLine, readLine}
 use Rattle.lines.specs.Text.{isPartial}
 use Rattle.lines.specs.Refusal.{Result, refused, gives, noTable, Outcome, leaving}
 
--- 01, Refusals, 2: refusal 1, then 3, of a text or table whose lines have `size` elements, right by `test`.
+-- 01, Refusals, 2 and 3: refusal 1, then 3, of a text or table by itself whose lines have `size` elements, right by `test`.
 unfoldable pub validation : (size : ℕ) (test : List ℕ → Bool) (source : List ℕ) → Result
 validation size test source =
     first (isPartial size source) (refused 1 noTable)

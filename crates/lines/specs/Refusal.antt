@@ -4,8 +4,8 @@ use mathlib.Core.List.{List, [], _∷_}
 use Rattle.lines.specs.declared.Answer.{Answer}
 use Rattle.lines.specs.declared.Answer.the-variants.{Lines, Refused}
 
--- A refusal is its number and a table. A success is the call's numbers: those that 01 names, such as D and N; otherwise how many
--- lines were found, read or written, or outputs given.
+-- A refusal is its number and a table. A success is the call's numbers: those that 01 names, such as D and N, and how many lines
+-- were found, read, written or handed back, or outputs given.
 pub data Result : Type 0 where
   refused : (number table : ℕ) → Result
   gives : List ℕ → Result

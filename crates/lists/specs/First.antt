@@ -1,4 +1,5 @@
--- "The first that applies": a chain of tests, each with its answer, whose last answer has no test.
+-- One test with its answer, and what else there is. Nested in its last place it makes a chain: the first test that is passed has its
+-- answer given, and the last answer has no test.
 use mathlib.Core.Bool.{Bool, true, false}
 
 abbrev pub first : {A : Type 0} → Bool → A → A → A

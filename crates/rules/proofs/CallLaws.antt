@@ -1,21 +1,15 @@
 -- The calls `judge` and `match_site`, test by test. Assumes nothing.
-use mathlib.Core.Path.{_≡_, refl, sym, ap, _∙_}
+use mathlib.Core.Path.{_≡_, ap}
 use mathlib.Core.Bool.{true, false}
 use mathlib.Core.List.{List, [], _∷_}
-use Prim.Native.Nat.{ℕ, _≤_, _<_}
-use native.Mathlib.Omega.{arith}
-use lib.ListN.{length, getD, take, drop, length-append}
-use lib.Seq.{getD-take}
+use Prim.Native.Nat.{ℕ}
 use borrow.Author.Tests.{eq-eqb, ne-eqb}
 use Rattle.lines.specs.Text.{isPartial}
 use Rattle.lines.specs.Refusal.{refused, gives}
-use Rattle.lines.specs.Calls.{over}
-use Rattle.circuit.specs.Table.{tableEnd, decode}
+use Rattle.circuit.specs.Table.{decode}
 use Rattle.circuit.specs.Refusal.{refusal, circuitTable}
 use Rattle.circuit.specs.Trim.{trimOf}
-use Rattle.circuit.specs.WellFormed.{WellFormed}
-use Rattle.circuit.proofs.BufferLaws.{over-take}
-use Rattle.circuit.proofs.TrimTheorems.{decode-trim, trimmed-is-well-formed}
+use Rattle.circuit.proofs.TrimTheorems.{decode-trim}
 use Rattle.rules.specs.RuleRefusal.{rulesRefusal, rulesTable}
 use Rattle.rules.specs.Verdict.{judgement, matchSite}
 use Rattle.rules.specs.JudgeCall.{judging}
@@ -55,31 +49,3 @@ module _ (c t : List ℕ) (rule gate mask : ℕ) where
         unfolding matching
         matching-accepted e =
             rw (p, q, eq-eqb (refusal c) 0 h, eq-eqb (rulesRefusal t) 0 e) (ap (λ d. gives (matchSite d t rule gate mask .verdict ∷ [])) (decode-trim c))
-
--- ---- d is a buffer that the trimmed table was put into, and n is where it ends
-
-module _ (c : List ℕ) (old d : List ℕ) (w : WellFormed c) (e : d ≡ over (trimOf c) old) (n : ℕ) (h : n ≡ tableEnd d) where
-  front : take (length (trimOf c)) d ≡ trimOf c
-  front = ap (take (length (trimOf c))) e ∙ over-take (trimOf c) old (length (trimOf c)) refl
-
-  known : (i : ℕ) → i < length (trimOf c) → getD d i 0 ≡ getD (trimOf c) i 0
-  known i l = sym (getD-take (length (trimOf c)) d i 0 l) ∙ ap (λ x. getD x i 0) front
-
-  trimmed-end : n ≡ length (trimOf c)
-  trimmed-end =
-      let a = trimmed-is-well-formed c w .sized in
-      let one : getD d 1 0 ≡ getD (trimOf c) 1 0 = known 1 (omega (arith, a)) in
-      let two : getD d 2 0 ≡ getD (trimOf c) 2 0 = known 2 (omega (arith, a)) in
-      omega (arith, a, h, one, two)
-
-  pub trimmed-fits : n ≤ length d
-  trimmed-fits = omega (arith, trimmed-end, ap length e ∙ length-append (trimOf c) (drop (length (trimOf c)) old))
-
-  pub trimmed-front : take n d ≡ trimOf c
-  trimmed-front = ap (λ k. take k d) trimmed-end ∙ front
-
-  pub trimmed-count : length (take n d) ≡ n
-  trimmed-count = ap length trimmed-front ∙ sym trimmed-end
-
-  pub trimmed-well : WellFormed (take n d)
-  trimmed-well = rw trimmed-front (trimmed-is-well-formed c w)

@@ -14,12 +14,11 @@ use borrow.Author.Tests.{eqb-true, eqb-false, eq-eqb}
 use Rattle.lists.specs.First.{first}
 use Rattle.lists.proofs.Below.{below-at}
 use Rattle.circuit.specs.Circuit.{Gate, Circuit, firstGate, noGate, gateAt}
-use Rattle.circuit.specs.Path.{isOperand}
+use Rattle.circuit.specs.Path.{isOperand, isUsed}
 use Rattle.circuit.specs.Refusal.{operandsBelow}
 use Rattle.circuit.proofs.EachLaws.{each-at, each-all}
 use Rattle.circuit.proofs.ValidLaws.{of-ordered}
 use Rattle.rules.specs.Rule.{Rule, root, maxLeftReferences}
-use Rattle.rules.specs.RuleRefusal.{isUsed}
 use Rattle.rules.specs.WellFormed.{ValidRule}
 use Rattle.rules.specs.Match.{boundTo, bindReference, bindOperands, matchGate, isSwapped, matchGates, startBindings, matchRule}
 use Rattle.rules.specs.Substitution.{BoundGate, Substitution}

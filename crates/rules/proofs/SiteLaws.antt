@@ -1,19 +1,16 @@
--- A sites table is well formed exactly if it is not refused; and its sites, one after the other. Assumes nothing.
-use mathlib.Core.Path.{_≡_, sym, ap, _∙_}
+-- A sites table is well formed exactly if it is not refused. Assumes nothing.
+use mathlib.Core.Path.{_≡_}
 use mathlib.Core.Bool.{true, false, not, _&&_}
-use mathlib.Core.List.{List, _∷_, map}
-use Prim.Native.Nat.{ℕ, _+_, _<_}
+use mathlib.Core.List.{List}
+use Prim.Native.Nat.{ℕ}
 use native.Mathlib.Omega.{arith}
 use lib.Dec.{eqb, leb}
-use lib.ListN.{length, drop, getD, length-map}
+use lib.ListN.{length, getD}
 use borrow.Author.Tests.{eq-eqb, eqb-true, le-leb, leb-true, not-false}
 use Rattle.lists.proofs.Tests.{both, left-of, right-of}
-use Rattle.lists.proofs.Maps.{map-drop}
 use Rattle.lines.specs.Text.{isPartial}
-use Rattle.circuit.specs.Table.{linesOf}
-use Rattle.circuit.proofs.TableLaws.{lines-length, step-from}
 use Rattle.circuit.proofs.RefusalLaws.{passed}
-use Rattle.rules.specs.SiteTable.{siteCount, maxSites, sitesFrom, sitesEnd, siteOf, siteAt, decodeSites, sitesHeadInLimits, sitesAsHeadSays, sitesRefusal}
+use Rattle.rules.specs.SiteTable.{siteCount, maxSites, sitesEnd, sitesHeadInLimits, sitesAsHeadSays, sitesRefusal}
 use Rattle.rules.specs.WellFormed.{WellFormedSites}
 use Rattle.rules.specs.Theorems.{AcceptedSitesAreWellFormed}
 use Rattle.rules.proofs.RefusalLaws.{whole-passes}
@@ -67,18 +64,6 @@ module _ (t : List ℕ) where
     pub sites-accepted : sitesHeadInLimits t ≡ true → sitesAsHeadSays t ≡ true → 0 ≡ sitesRefusal t
     unfolding sitesRefusal
     sites-accepted h e = rw (w, h, e)
-
-  -- ---- the sites
-
-  pub sites-length : length (decodeSites t) ≡ siteCount t
-  sites-length = length-map (linesOf (siteCount t) (drop (sitesFrom t) t)) siteOf ∙ lines-length (siteCount t) (drop (sitesFrom t) t)
-
-  -- a loop over the sites that has come to site i
-  pub site-step : (i : ℕ) → i < siteCount t → drop i (decodeSites t) ≡ siteAt t i ∷ drop (i + 1) (decodeSites t)
-  site-step i h =
-      let ls = linesOf (siteCount t) (drop (sitesFrom t) t) in
-      map-drop siteOf i ls ∙ ap (map siteOf) (step-from (sitesFrom t) (siteCount t) t i h)
-      ∙ ap (λ l. siteAt t i ∷ l) (sym (map-drop siteOf (i + 1) ls))
 
 pub accepted-sites-are-well-formed : AcceptedSitesAreWellFormed
 accepted-sites-are-well-formed t = (accepted t, well-formed-sites-accepted t)

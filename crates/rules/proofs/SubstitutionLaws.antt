@@ -18,11 +18,10 @@ use Rattle.lists.proofs.First.{first-false, first-either}
 use Rattle.lists.proofs.Below.{below-at}
 use Rattle.circuit.specs.Circuit.{Gate, Circuit, firstGate, references, noGate, gateAt}
 use Rattle.circuit.specs.Valuation.{Ordered}
-use Rattle.circuit.specs.Path.{isGate, isOperand}
+use Rattle.circuit.specs.Path.{isGate, isOperand, isUsed}
 use Rattle.circuit.proofs.EachLaws.{each-at}
 use Rattle.circuit.proofs.PassLaws.{zeros-at}
 use Rattle.rules.specs.Rule.{Rule, root, maxLeftReferences}
-use Rattle.rules.specs.RuleRefusal.{isUsed}
 use Rattle.rules.specs.WellFormed.{ValidRule}
 use Rattle.rules.specs.Match.{boundTo, bindReference, bindOperands, matchGate, isSwapped, matchGates, startBindings, matchRule}
 use Rattle.rules.specs.Substitution.{BoundGate, Substitution}

@@ -12,9 +12,8 @@ use Rattle.lists.proofs.Tests.{left-of, right-of}
 use Rattle.lists.proofs.Below.{below-at, below-of}
 use Rattle.circuit.specs.Circuit.{Gate, firstGate}
 use Rattle.circuit.specs.Each.{allGates}
-use Rattle.circuit.specs.Path.{isOperand}
+use Rattle.circuit.specs.Path.{isOperand, isUsed}
 use Rattle.circuit.specs.Refusal.{operandsBelow}
-use Rattle.rules.specs.RuleRefusal.{isUsed}
 use Rattle.rules.specs.Theorems.{UseIsLater}
 
 -- A loop that looks for a user of r and has come to gate i: it is none, it is one, or there is none.

@@ -19,6 +19,7 @@ use Rattle.rules.specs.RuleTable.{holesAt, leftsAt, leftFrom, ruleAt, pl
 use Rattle.rules.specs.Soundness.{isSound}
 use Rattle.rules.specs.Match.{matchGates, matchRule, attempt}
 use Rattle.rules.specs.Verdict.{hasRule, judgement, kindOf, kindVerdict, failing, found, matchAt, matchSite}
+use Rattle.rules.specs.Theorems.{KindAsksForGate}
 use Rattle.circuit.proofs.TableLaws.{lines-length}
 use Rattle.rules.proofs.MatchLaws.{is-gate, gate-low, gate-high, match-start}
 
@@ -41,8 +42,7 @@ module _ (c : Circuit) (v : ℕ) where
   unfolding kindOf
   kind-beyond h = rw (le-ltb v 2 (omega arith), le-ltb v (firstGate (c .inputs)) (omega arith), le-ltb v (references c) h)
 
-  -- 3 exactly if it is not a gate
-  pub kind-verdict : kindVerdict (kindOf c v) ≡ first (not (isGate c v)) 3 0
+  kind-verdict : kindVerdict (kindOf c v) ≡ first (not (isGate c v)) 3 0
   kind-verdict =
       elim (decLt v (firstGate (c .inputs))) [
         | yes h ↦ low h ∙ sym (first-true 3 0 (ap not (gate-low c v h)))
@@ -59,6 +59,9 @@ module _ (c : Circuit) (v : ℕ) where
             | no k ↦ ap kindVerdict (sym (kind-input (omega arith) h))
           ]
 
+pub kind-asks-for-gate : KindAsksForGate
+kind-asks-for-gate c v = kind-verdict c v
+
 -- ---- the verdict so far, j, and behind it that of the reference
 
 module _ (c : Circuit) (u : Rule) (gate mask j v : ℕ) (e : v ≡ first (eqb j 0) (kindVerdict (kindOf c gate)) j) where
@@ -66,7 +69,7 @@ module _ (c : Circuit) (u : Rule) (gate mask j v : ℕ) (e : v ≡ first (eqb j 
   so-far h = e ∙ first-false (kindVerdict (kindOf c gate)) j h
 
   of-kind : eqb j 0 ≡ true → v ≡ first (not (isGate c gate)) 3 0
-  of-kind h = e ∙ (first-true (kindVerdict (kindOf c gate)) j h ∙ kind-verdict c gate)
+  of-kind h = e ∙ (first-true (kindVerdict (kindOf c gate)) j h ∙ kind-asks-for-gate c gate)
 
   -- none of them applies
   pub none-before : v ≡ 0 → eqb j 0 ≡ true

@@ -38,7 +38,7 @@ matchGate c m g swap b =
     (first swap (bindOperands g (gateAt c (boundTo b m) .right) (gateAt c (boundTo b m) .left) b)
     (bindOperands g (gateAt c (boundTo b m) .left) (gateAt c (boundTo b m) .right) b)))
 
--- 01, Sites, 4: mask bit i belongs to left gate i.
+-- 01, Sites, 4: which bit of the mask decides for left gate i
 abbrev pub isSwapped : (mask i : ℕ) → Bool
 isSwapped mask i = eqb (bit i mask) 1
 

@@ -1,4 +1,4 @@
--- The call `match_site` (01, Sites, the last sentence): what it gives back, for every input.
+-- The call `match_site` (01, Sites, 20): what it gives back, for every input.
 use Prim.Native.Nat.{ℕ}
 use mathlib.Core.Bool.{not}
 use mathlib.Core.List.{List, [], _∷_}

@@ -1,16 +1,16 @@
 -- The refusals 1 and 4 to 8 of a rules table.
 use Prim.Native.Nat.{ℕ, zero, suc, _+_, _-_}
-use mathlib.Core.Bool.{Bool, true, false, not, _&&_, _||_}
-use mathlib.Core.List.{List, [], _∷_}
+use mathlib.Core.Bool.{Bool, true, not, _&&_}
+use mathlib.Core.List.{List}
 use lib.Dec.{eqb, leb, ltb}
 use lib.ListN.{length, getD}
 use Rattle.lists.specs.First.{first}
 use Rattle.lists.specs.Below.{allBelow}
 use Rattle.lines.specs.Text.{isPartial}
-use Rattle.circuit.specs.Circuit.{Gate, firstGate}
+use Rattle.circuit.specs.Circuit.{firstGate}
 use Rattle.circuit.specs.Table.{lineAt}
 use Rattle.circuit.specs.Each.{allGates}
-use Rattle.circuit.specs.Path.{isOperand}
+use Rattle.circuit.specs.Path.{isUsed}
 use Rattle.circuit.specs.Refusal.{hasGateKind, isClosing, operandsBelow}
 use Rattle.rules.specs.Rule.{Rule, maxRules, maxHoles, maxLefts, maxRights}
 use Rattle.rules.specs.RuleTable.{ruleCount, rulesFrom, holesAt, leftsAt, rightsAt, closingFrom, nextRule, ruleAt}
@@ -53,11 +53,6 @@ abbrev pub referencesOk : Rule → Bool
 referencesOk u =
     allGates operandsBelow (firstGate (u .holes)) (u .lefts)
     && (allGates operandsBelow (firstGate (u .holes)) (u .rights) && ltb (u .closing) (firstGate (u .holes) + length (u .rights)))
-
--- whether reference r is an operand of some gate
-unfoldable pub isUsed : (r : ℕ) → List Gate → Bool
-isUsed r [] = false
-isUsed r (g ∷ gs) = isOperand r g || isUsed r gs
 
 -- 01, refusal 8, does not apply: each hole and each left gate but the last, which are the references from 2 up to the root, is an
 -- operand of a left gate. That gate is a later one wherever 7 does not apply (`UseIsLater` in Theorems.antt).

@@ -1,15 +1,16 @@
 -- 01, Sites, 1 and 2: sites, the table that they are written in, and its refusals 1, 4 and 5.
 use Prim.Native.Nat.{ℕ, _+_, _*_}
 use mathlib.Core.Bool.{Bool, not, _&&_}
-use mathlib.Core.List.{List, map}
+use mathlib.Core.List.{List}
 use lib.Dec.{eqb, leb}
-use lib.ListN.{length, drop, getD}
+use lib.ListN.{length, getD}
 use Rattle.lists.specs.First.{first}
 use Rattle.lines.specs.Text.{isPartial}
 use Rattle.circuit.specs.Circuit.{Gate}
-use Rattle.circuit.specs.Table.{lineAt, linesOf}
+use Rattle.circuit.specs.Table.{lineAt}
 
--- 01, Sites, 2: a rule's number, from 1; a gate's reference in the circuit as it then is; and the swap mask
+-- 01, Sites, 2: which rule is tried, at which gate of the circuit that earlier sites have left, and which left gates have their operands
+-- crossed
 pub record Site : Type 0 where
   pub rule : ℕ
   pub gate : ℕ
@@ -33,12 +34,9 @@ sitesEnd t = sitesFrom t + 3 * siteCount t
 abbrev pub siteOf : Gate → Site
 siteOf line = record { rule = line .kind; gate = line .left; mask = line .right }
 
--- site i, the first being 0, and all sites
+-- site i, the first being 0
 abbrev pub siteAt : List ℕ → (i : ℕ) → Site
 siteAt t i = siteOf (lineAt t (sitesFrom t + 3 * i))
-
-abbrev pub decodeSites : List ℕ → List Site
-decodeSites t = map siteOf (linesOf (siteCount t) (drop (sitesFrom t) t))
 
 -- 01, refusal 4, does not apply: the number of sites is within its limit, and the zeros are zeros.
 abbrev pub sitesHeadInLimits : List ℕ → Bool

@@ -2,29 +2,30 @@
 use Prim.Native.Nat.{ℕ, _+_, _/_, _^_, _≤_, _<_}
 use mathlib.Core.Path.{_≡_}
 use mathlib.Core.Logic.{_↔_}
-use mathlib.Core.Bool.{true}
+use mathlib.Core.Bool.{true, not}
 use mathlib.Core.List.{List}
 use mathlib.Core.Option.{some}
 use lib.ListN.{length, drop, getD}
+use Rattle.lists.specs.First.{first}
 use Rattle.circuit.specs.Circuit.{Circuit, firstGate}
 use Rattle.circuit.specs.Fold.{foldGates}
 use Rattle.circuit.specs.Valuation.{Ordered, Solves}
 use Rattle.circuit.specs.Evaluation.{bits}
-use Rattle.circuit.specs.Path.{isGate}
+use Rattle.circuit.specs.Path.{isGate, isUsed}
 use Rattle.circuit.specs.Table.{decode}
 use Rattle.circuit.specs.WellFormed.{WellFormed}
 use Rattle.circuit.specs.ReverseDepth.{isLive}
 use Rattle.circuit.specs.Trim.{trim}
 use Rattle.rules.specs.Rule.{Rule}
 use Rattle.rules.specs.RuleTable.{placeOf, ruleOf, decodeRules, encodeRules}
-use Rattle.rules.specs.RuleRefusal.{referencesOk, isUsed, usesOk, rulesRefusal}
+use Rattle.rules.specs.RuleRefusal.{referencesOk, usesOk, rulesRefusal}
 use Rattle.rules.specs.SiteTable.{sitesRefusal}
 use Rattle.rules.specs.WellFormed.{WellFormedRule, ValidRule, WellFormedRules, WellFormedSites}
 use Rattle.rules.specs.Soundness.{leftValue, rightValue, isSound}
 use Rattle.rules.specs.Words.{sameWords}
 use Rattle.rules.specs.Match.{boundTo, matchRule}
 use Rattle.rules.specs.Substitution.{Substitution}
-use Rattle.rules.specs.Verdict.{hasRule, judgement, matchSite}
+use Rattle.rules.specs.Verdict.{hasRule, judgement, kindOf, kindVerdict, matchSite}
 
 -- ---- tables
 
@@ -129,6 +130,10 @@ MatchIsZero =
     → mask / 2 ^ length (ruleOf t rule .lefts) ≡ 0
     → Substitution c (ruleOf t rule) gate mask b
     → matchSite c t rule gate mask .verdict ≡ 0
+
+-- The kind of a reference asks for 3 exactly if it is not a gate.
+abbrev pub KindAsksForGate : Type 0
+KindAsksForGate = (c : Circuit) (v : ℕ) → kindVerdict (kindOf c v) ≡ first (not (isGate c v)) 3 0
 
 -- The judge's verdict is at most 2, that of the match at most 4.
 abbrev pub VerdictsAreSmall : Type 0

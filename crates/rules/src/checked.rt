@@ -2,13 +2,14 @@
 // here is asked by the prover of every caller, and no other language reaches these functions.
 ghost use mathlib.Core.Path.{_≡_};
 ghost use mathlib.Core.Bool.{true};
+ghost use Rattle.circuit.specs.Circuit.{firstGate};
 ghost use Rattle.circuit.specs.Table.{decode};
 ghost use Rattle.circuit.specs.WellFormed.{WellFormed};
 ghost use Rattle.rules.specs.RuleRefusal.{rulesRefusal};
-ghost use Rattle.rules.specs.RuleTable.{placeOf};
+ghost use Rattle.rules.specs.RuleTable.{holesAt, rightsAt, rightFrom, ruleAt, placeOf};
 ghost use Rattle.rules.specs.SiteTable.{sitesRefusal};
 ghost use Rattle.rules.specs.Verdict.{hasRule, matchSite};
-ghost use Rattle.rules.specs.WellFormed.{WellFormedRules};
+ghost use Rattle.rules.specs.WellFormed.{WellFormedRule, WellFormedRules};
 use crate::SiteMatch;
 use crate::checking::rules_kinds_ok;
 use crate::checking::rules_references_ok;
@@ -19,8 +20,18 @@ use crate::checking::walk_from_top;
 use crate::judging::soundness_verdict;
 use crate::matching::failing;
 use crate::table;
+use crate::table::CONSTANTS;
 use crate::verdict::match_judged;
 use circuit::checked::is_partial;
+
+// What a rule's right side is read by: the reference of its first gate, how many gates it has, where their lines begin, and its closing
+// reference.
+pub struct RightSide {
+    pub first: u32,
+    pub count: u32,
+    pub from: usize,
+    pub closing: u32,
+}
 
 // The number of the first refusal that applies to the rules, or 0.
 pub fn rules_refusal(t: &[u32]) -> u32
@@ -68,6 +79,26 @@ pub fn place(t: &[u32], rule: u32) -> usize
     ensures { λ r. ⌜ r ≡ placeOf (now (t .entry)) rule ⌝ }
 {
     table::place(t, rule)
+}
+
+// The right side of the rule that begins at p.
+pub fn right_side(t: &[u32], p: usize) -> RightSide
+    requires { ⌜ WellFormedRule (now t) p ⌝ }
+    ensures { λ r. ⌜ r .first ≡ firstGate (holesAt (now (t .entry)) p) ⌝ }
+    ensures { λ r. ⌜ r .count ≡ rightsAt (now (t .entry)) p ⌝ }
+    ensures { λ r. ⌜ r .from ≡ rightFrom (now (t .entry)) p ⌝ }
+    ensures { λ r. ⌜ r .closing ≡ ruleAt (now (t .entry)) p .closing ⌝ }
+{
+    let first = t[p] + CONSTANTS;
+    let count = t[p + 2];
+    let from = table::right_from(t, p);
+    let closing = t[table::closing_from(t, p) + 1];
+    RightSide {
+        first: first,
+        count: count,
+        from: from,
+        closing: closing,
+    }
 }
 
 // The first of a site's verdicts 1 to 4 that applies, else 0, with the bindings of the match.

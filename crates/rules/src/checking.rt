@@ -3,12 +3,13 @@
 ghost use mathlib.Core.Path.{_≡_};
 ghost use Prim.Native.Nat.{_+_, _*_, _≤_};
 ghost use lib.ListN.{length, drop};
+ghost use Rattle.circuit.specs.Path.{isUsed};
 ghost use Rattle.circuit.specs.Circuit.{firstGate};
 ghost use Rattle.circuit.specs.Each.{allGates};
 ghost use Rattle.circuit.specs.Refusal.{hasGateKind, operandsBelow};
 ghost use Rattle.circuit.specs.Table.{linesOf};
 ghost use Rattle.rules.specs.Rule.{maxLeftReferences};
-ghost use Rattle.rules.specs.RuleRefusal.{rulesHeadInLimits, ruleInLimits, walkFromTop, ruleKindsOk, referencesOk, isUsed, usesOk, rulesKindsOk, rulesReferencesOk, rulesUsesOk};
+ghost use Rattle.rules.specs.RuleRefusal.{rulesHeadInLimits, ruleInLimits, walkFromTop, ruleKindsOk, referencesOk, usesOk, rulesKindsOk, rulesReferencesOk, rulesUsesOk};
 ghost use Rattle.rules.specs.RuleTable.{ruleAt};
 ghost use Rattle.rules.specs.SiteTable.{sitesHeadInLimits, sitesAsHeadSays};
 ghost use Rattle.rules.specs.WellFormed.{RuleSized, RulesSized};

@@ -2,9 +2,9 @@ use mathlib.Core.Path.{_≡_, refl}
 use Prim.Native.Nat.{_-_, _≤_}
 use lib.ListN.{drop}
 use borrow.Author.Needs.{needs}
+use Rattle.circuit.specs.Path.{isUsed}
 use Rattle.circuit.specs.Table.{linesOf}
 use Rattle.circuit.proofs.TableLaws.{lines-length, step-from}
-use Rattle.rules.specs.RuleRefusal.{isUsed}
 use Rattle.rules.proofs.UseLaws.{used-pass, used-hit, used-end}
 use Rattle.rules.proofs.checking.is_used.Statement.{statement}
 use Rattle.rules.proofs.checking.is_used.Tie as tie

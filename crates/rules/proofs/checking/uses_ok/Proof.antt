@@ -8,9 +8,9 @@ use borrow.Author.Needs.{needs}
 use borrow.Author.Tests.{not-true, not-false}
 use Rattle.lists.specs.Below.{allBelow}
 use Rattle.lists.proofs.Below.{below-none, below-turn, below-fails}
+use Rattle.circuit.specs.Path.{isUsed}
 use Rattle.circuit.specs.Table.{linesOf}
 use Rattle.circuit.proofs.TableLaws.{lines-length}
-use Rattle.rules.specs.RuleRefusal.{isUsed}
 use Rattle.rules.specs.RuleTable.{holesAt, leftsAt, leftFrom, ruleAt}
 use Rattle.rules.proofs.checking.uses_ok.Statement.{statement}
 use Rattle.rules.proofs.checking.uses_ok.Tie as tie

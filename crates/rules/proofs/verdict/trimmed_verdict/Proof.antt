@@ -5,8 +5,7 @@ use lib.ListN.{take, replicate}
 use borrow.Author.Needs.{needs}
 use Rattle.circuit.specs.Table.{decode}
 use Rattle.rules.specs.Verdict.{matchSite}
-use Rattle.rules.specs.declared.SiteMatch.{SiteMatch}
-use Rattle.rules.proofs.CallLaws.{trimmed-fits, trimmed-front, trimmed-count, trimmed-well}
+use Rattle.circuit.proofs.FrontLaws.{trimmed-fits, trimmed-front, trimmed-count, trimmed-well}
 use Rattle.rules.proofs.verdict.trimmed_verdict.Statement.{statement}
 use Rattle.rules.proofs.verdict.trimmed_verdict.Tie as tie
 

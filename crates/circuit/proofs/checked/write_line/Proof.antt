@@ -3,8 +3,8 @@ use native.Mathlib.Omega.{arith}
 use lib.ListN.{length-set}
 use borrow.Author.Needs.{needs}
 use Rattle.circuit.proofs.TrimmingLaws.{line-stores}
-use Rattle.circuit.proofs.trimming.write_line.Statement.{statement}
-use Rattle.circuit.proofs.trimming.write_line.Tie as tie
+use Rattle.circuit.proofs.checked.write_line.Statement.{statement}
+use Rattle.circuit.proofs.checked.write_line.Tie as tie
 
 mul-out : tie.Need-mul-out
 mul-out c = search needs

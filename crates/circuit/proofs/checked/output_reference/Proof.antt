@@ -5,8 +5,8 @@ use lib.ListN.{getD}
 use borrow.Author.Needs.{needs}
 use Rattle.circuit.specs.Table.{refs, closingsFrom}
 use Rattle.circuit.proofs.RefusalLaws.{output-below}
-use Rattle.circuit.proofs.table.output_reference.Statement.{statement}
-use Rattle.circuit.proofs.table.output_reference.Tie as tie
+use Rattle.circuit.proofs.checked.output_reference.Statement.{statement}
+use Rattle.circuit.proofs.checked.output_reference.Tie as tie
 
 -- what was read, at the place that laws have
 known : (c : tie.After-shared-slice-known2)
