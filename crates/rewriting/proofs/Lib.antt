@@ -1,0 +1,10 @@
+pub mod SpliceLaws
+pub mod ReplacementLaws
+pub mod PairLaws
+pub mod StepLaws
+pub mod RunLaws
+pub mod FrontLaws
+pub mod RunStateLaws
+pub mod LineLaws
+pub mod CallLaws
+pub mod Theorems

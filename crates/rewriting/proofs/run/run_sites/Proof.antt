@@ -1,0 +1,170 @@
+use mathlib.Core.Path.{_≡_, refl, sym, ap, _∙_}
+use Prim.Native.Nat.{_-_, _≤_, _<_}
+use native.Mathlib.Omega.{arith}
+use lib.ListN.{length}
+use borrow.Author.Needs.{needs}
+use Rattle.lists.proofs.Below.{below-length}
+use Rattle.lists.proofs.Written.{Written, written-none, written-more}
+use Rattle.rules.specs.SiteTable.{siteCount}
+use Rattle.rewriting.specs.Run.{State, afterSites, verdictAt, verdictsOf}
+use Rattle.rewriting.specs.RewriteCall.{maxTable}
+use Rattle.rewriting.specs.RunState.{stateOf, stepOf, Held}
+use Rattle.rewriting.proofs.FrontLaws.{written-over}
+use Rattle.rewriting.proofs.RunLaws.{after-none, kept-limit}
+use Rattle.rewriting.proofs.RunStateLaws.{turn-state, turn-verdict, turn-limit}
+use Rattle.rewriting.proofs.run.run_sites.Statement.{statement}
+use Rattle.rewriting.proofs.run.run_sites.Tie as tie
+
+abbrev Inv-loop : tie.InvT-loop
+Inv-loop rules sites work₀ verdicts₀ candidate₀ run₀ count i₀ work verdicts candidate run i =
+    (i ≤ count) × (length work ≡ length work₀) × (length candidate ≡ maxTable) × Held run work
+    × (stateOf run work ≡ afterSites rules sites (stateOf run₀ work₀) i) × Written (verdictsOf rules sites (stateOf run₀ work₀) count) verdicts₀ verdicts i
+
+abbrev μ-loop : tie.MeasureT-loop
+μ-loop rules sites work₀ verdicts₀ candidate₀ run₀ count i₀ work verdicts candidate run i = count - i
+
+shared-slice-read-count : tie.Need-shared-slice-read-count Inv-loop μ-loop
+shared-slice-read-count c = search needs
+
+cast-count : tie.Need-cast-count Inv-loop μ-loop
+cast-count c = search needs
+
+loop-holds : tie.Need-loop-holds Inv-loop μ-loop
+loop-holds c =
+    let s = c .before .before .before .before .before in
+    let a = s .args in
+    (search needs, refl, search needs, s .pre .1 .1 .0, sym (after-none (a .rules .now) (a .sites .now) (stateOf (a .start) (a .work .now))), written-none 0 _ _)
+
+mul-at : tie.Need-mul-at Inv-loop μ-loop
+mul-at c = search needs
+
+add-at : tie.Need-add-at Inv-loop μ-loop
+add-at c = search needs
+
+mul-step : tie.Need-mul-step Inv-loop μ-loop
+mul-step c = search needs
+
+shared-slice-read-step : tie.Need-shared-slice-read-step Inv-loop μ-loop
+shared-slice-read-step c = search needs
+
+add-step : tie.Need-add-step Inv-loop μ-loop
+add-step c = search needs
+
+mul-step-2 : tie.Need-mul-step-2 Inv-loop μ-loop
+mul-step-2 c = search needs
+
+shared-slice-read-step-2 : tie.Need-shared-slice-read-step-2 Inv-loop μ-loop
+shared-slice-read-step-2 c = search needs
+
+add-step-2 : tie.Need-add-step-2 Inv-loop μ-loop
+add-step-2 c = search needs
+
+mul-step-3 : tie.Need-mul-step-3 Inv-loop μ-loop
+mul-step-3 c = search needs
+
+shared-slice-read-step-3 : tie.Need-shared-slice-read-step-3 Inv-loop μ-loop
+shared-slice-read-step-3 c = search needs
+
+slice-aggregate-step : tie.Need-slice-aggregate-step Inv-loop μ-loop
+slice-aggregate-step c = search needs
+
+step-requires : tie.Need-step-requires Inv-loop μ-loop
+step-requires c κs =
+    let s = c .before .before .before .before .before .before .before .before .before .before .before .before in
+    let a = s .args in
+    let l = c .before .before .before .before .before .before .loop in
+    (s .pre .0, (omega (arith, l .inv .2), (l .inv .3, omega (arith, kept-limit (a .rules .now) (a .sites .now) (stateOf (a .start) (a .work .now)) (l .i), ap (λ (x : State). x .kept) (l .inv .4), s .pre .1 .0, s .pre .1 .1 .1 .0))))
+
+cast-verdicts : tie.Need-cast-verdicts Inv-loop μ-loop
+cast-verdicts c =
+    let s = c .before .before .before .before .before .before .before .before .before .before .before .before .before .before .before .before .before in
+    let a = s .args in
+    let l = c .before .before .before .before .before .before .before .before .before .before .before .loop in
+    let t = c .before .before .before .before .step in
+    omega (arith, turn-limit (a .rules .now) (a .sites .now) (stateOf (a .start) (a .work .now)) (l .i) (stateOf (l .run) (l .work)) (l .inv .4) (stepOf (t .result) (t .last .1 .1 .1 .1 .1 .1 .0)) (t .ensures .0))
+
+slice-write-verdicts : tie.Need-slice-write-verdicts Inv-loop μ-loop
+slice-write-verdicts c =
+    let s = c .before .before .before .before .before .before .before .before .before .before .before .before .before .before .before .before .before in
+    let a = s .args in
+    let l = c .before .before .before .before .before .before .before .before .before .before .before .loop in
+    omega (arith, l .inv .5 .long, s .pre .1 .0, s .pre .1 .1 .1 .1)
+
+add-i : tie.Need-add-i Inv-loop μ-loop
+add-i c = search needs
+
+loop-less : tie.Need-loop-less Inv-loop μ-loop
+loop-less c = search needs
+
+loop-again : tie.Need-loop-again Inv-loop μ-loop
+loop-again c =
+    let s = c .before .before .before .before .before .before .before .before .before .before .before .before .before .before .before .before .before .before in
+    let a = s .args in
+    let l = c .before .before .before .before .before .before .before .before .before .before .before .before .loop in
+    let t = c .before .before .before .before .before .step in
+    let below : l .i < siteCount (a .sites .now) = c .before .before .before .before .before .before .before .before .before .before .before .loop-test .taken in
+    let start = stateOf (a .start) (a .work .now) in
+    let x = stepOf (t .result) (t .last .1 .1 .1 .1 .1 .1 .0) in
+    let before = stateOf (l .run) (l .work) in
+    let xs = verdictsOf (a .rules .now) (a .sites .now) start (siteCount (a .sites .now)) in
+    let long : length xs ≡ siteCount (a .sites .now) = below-length (verdictAt (a .rules .now) (a .sites .now) start) (siteCount (a .sites .now)) in (
+      omega (arith, below),
+      t .kept .1 .1 .1 .1 .1 .1 .0 ∙ l .inv .1,
+      t .kept .1 .1 .1 .1 .1 .0 ∙ l .inv .2,
+      t .ensures .1,
+      turn-state (a .rules .now) (a .sites .now) start (l .i) before (l .inv .4) x (t .ensures .0),
+      written-more 0 xs (a .verdicts .now) (l .verdicts) (l .i) (t .result .verdict) (l .inv .5) (omega (arith, long, below)) (omega (arith, below, s .pre .1 .0, s .pre .1 .1 .1 .1))
+          (turn-verdict (a .rules .now) (a .sites .now) start (l .i) before (l .inv .4) x (t .ensures .0) (siteCount (a .sites .now)) below),
+    )
+
+same-length : tie.Need-same-length Inv-loop μ-loop
+same-length c = search needs
+
+same-length-2 : tie.Need-same-length-2 Inv-loop μ-loop
+same-length-2 c = c .before .loop .inv .5 .long
+
+returns : tie.Need-returns Inv-loop μ-loop
+returns c =
+    let s = c .before .before .before .before .before .before .before in
+    let a = s .args in
+    let l = c .before .loop in
+    let e : l .i ≡ siteCount (a .sites .now) = omega arith in
+    let start = stateOf (a .start) (a .work .now) in
+    let xs = verdictsOf (a .rules .now) (a .sites .now) start (siteCount (a .sites .now)) in
+    let long : length xs ≡ siteCount (a .sites .now) = below-length (verdictAt (a .rules .now) (a .sites .now) start) (siteCount (a .sites .now)) in (
+      l .inv .4 ∙ ap (afterSites (a .rules .now) (a .sites .now) start) e,
+      (
+        l .inv .3,
+        written-over xs (a .verdicts .now) (l .verdicts) (l .i) (l .inv .5) (e ∙ sym long),
+      ),
+    )
+
+pub run-sites-spec : {M : Type 1} → statement M
+run-sites-spec =
+    tie.close
+    (tie.spec
+    Inv-loop
+    μ-loop
+    shared-slice-read-count
+    cast-count
+    loop-holds
+    mul-at
+    add-at
+    mul-step
+    shared-slice-read-step
+    add-step
+    mul-step-2
+    shared-slice-read-step-2
+    add-step-2
+    mul-step-3
+    shared-slice-read-step-3
+    slice-aggregate-step
+    step-requires
+    cast-verdicts
+    slice-write-verdicts
+    add-i
+    loop-less
+    loop-again
+    same-length
+    same-length-2
+    returns)

@@ -1,0 +1,9 @@
+pub mod Replacement
+pub mod Pair
+pub mod Verdict
+pub mod Run
+pub mod SafeRun
+pub mod RewriteCall
+pub mod RunState
+pub mod StepParts
+pub mod Theorems

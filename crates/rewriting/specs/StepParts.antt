@@ -1,0 +1,43 @@
+-- 01, Sites, 13 and 14, in the two parts in which a step is taken: what is known of a site before replacement, and after it.
+use Prim.Native.Nat.{ℕ, _+_}
+use mathlib.Core.Bool.{not}
+use mathlib.Core.List.{List}
+use lib.Dec.{eqb}
+use Rattle.lists.specs.First.{first}
+use Rattle.circuit.specs.Circuit.{Circuit}
+use Rattle.circuit.specs.Trim.{trim}
+use Rattle.circuit.specs.declared.checked.DepthPair.{DepthPair}
+use Rattle.rules.specs.declared.SiteMatch.{SiteMatch}
+use Rattle.rules.specs.RuleTable.{ruleOf}
+use Rattle.rules.specs.SiteTable.{Site}
+use Rattle.rewriting.specs.declared.run.Run.{Run}
+use Rattle.rewriting.specs.declared.run.Stepped.{Stepped}
+use Rattle.rewriting.specs.Pair.{pairOf, isLower}
+use Rattle.rewriting.specs.Verdict.{siteMatch, isTooLarge}
+use Rattle.rewriting.specs.Run.{State, Step}
+use Rattle.rewriting.specs.RunState.{runPair}
+
+-- the first of the verdicts 1 to 5 that applies, else 0, with the bindings of the match
+abbrev pub matchWithin : Circuit → (rules : List ℕ) → Site → SiteMatch
+matchWithin c rules s =
+    record {
+      verdict =
+          first (not (eqb (siteMatch c rules s .verdict) 0)) (siteMatch c rules s .verdict)
+          (first (isTooLarge c (ruleOf rules (s .rule))) 5 0);
+      bindings = siteMatch c rules s .bindings;
+    }
+
+-- By the circuit after replacement: it is kept, trimmed, if its pair is lower, else 6. Its pair is that of the trimmed one
+-- (`PairBeforeTrim` in Theorems.antt).
+abbrev pub settled : State → (replaced : Circuit) → Step
+settled s c =
+    first (isLower (pairOf c) (pairOf (s .circuit)))
+    (record { next = record { circuit = trim c; kept = s .kept + 1 }; verdict = 0 })
+    (record { next = s; verdict = 6 })
+
+-- and the numbers that go by value, by its pair
+abbrev pub compared : Run → (new : DepthPair) → Stepped
+compared run new =
+    first (isLower new (runPair run))
+    (record { run = record { depth = new .depth; critical = new .critical; kept = run .kept + 1 }; verdict = 0 })
+    (record { run = run; verdict = 6 })

@@ -1,0 +1,69 @@
+// The rewriting of tables that no refusal applies to.
+ghost use mathlib.Core.Path.{_≡_};
+ghost use mathlib.Core.Bool.{false};
+ghost use Prim.Native.Nat.{_/_, _≤_};
+ghost use lib.ListN.{length};
+ghost use Rattle.lines.specs.Calls.{over};
+ghost use Rattle.lines.specs.Refusal.{gives};
+ghost use Rattle.circuit.specs.Table.{encode, tableEnd};
+ghost use Rattle.circuit.specs.WellFormed.{WellFormed};
+ghost use Rattle.rules.specs.WellFormed.{WellFormedRules, WellFormedSites};
+ghost use Rattle.rewriting.specs.RewriteCall.{paperValues as rewrittenValues, areShort, maxTable, doneValues};
+ghost use Rattle.rewriting.specs.Run.{finalState, allVerdicts};
+ghost use Rattle.rewriting.specs.RunState.{tableIn};
+use crate::Rewritten;
+use crate::run::Run;
+use crate::run::run_sites;
+use circuit::checked::pair;
+use circuit::checked::table_end;
+use circuit::checked::trim;
+
+// The table that the working table begins with, over the front of `result`. What is given back is how many lines it has.
+fn copy_table(work: &[u32], result: &mut [u32]) -> u32
+    requires { ⌜ WellFormed (tableIn (now work)) ⌝ }
+    requires { ⌜ maxTable ≤ length (now result) ⌝ }
+    ensures { λ r. ⌜ r ≡ tableEnd (now (work .entry)) / 3 ⌝ }
+    ensures { λ _. ⌜ now (result .exit) ≡ over (tableIn (now (work .entry))) (now (result .entry)) ⌝ }
+{
+    let end = table_end(work);
+    for i in 0..end {
+        result[i] = work[i];
+    }
+    (end / 3) as u32
+}
+
+// Trims the circuit into the working table, runs over the sites there, and hands back what they leave.
+pub fn rewrite_accepted(
+    circuit: &[u32],
+    rules: &[u32],
+    sites: &[u32],
+    result: &mut [u32],
+    work: &mut [u32],
+    verdicts: &mut [u8],
+) -> Rewritten
+    requires { ⌜ WellFormed (now circuit) ⌝ }
+    requires { ⌜ WellFormedRules (now rules) ⌝ }
+    requires { ⌜ WellFormedSites (now sites) ⌝ }
+    requires { ⌜ areShort (now result) (now work) (now verdicts) ≡ false ⌝ }
+    ensures { λ r. ⌜ rewrittenValues r ≡ gives (doneValues (now (circuit .entry)) (now (rules .entry)) (now (sites .entry))) ⌝ }
+    ensures { λ _. ⌜ now (result .exit) ≡ over (encode (finalState (now (circuit .entry)) (now (rules .entry)) (now (sites .entry)) .circuit)) (now (result .entry)) ⌝ }
+    ensures { λ _. ⌜ now (verdicts .exit) ≡ over (allVerdicts (now (circuit .entry)) (now (rules .entry)) (now (sites .entry))) (now (verdicts .entry)) ⌝ }
+{
+    let old = pair(circuit);
+    trim(circuit, work);
+    let start = Run {
+        depth: old.depth,
+        critical: old.critical,
+        kept: 0,
+    };
+    let run = run_sites(start, rules, sites, work, verdicts);
+    let lines = copy_table(work, result);
+    Rewritten::Done {
+        lines: lines,
+        old_depth: old.depth,
+        old_critical: old.critical,
+        new_depth: run.depth,
+        new_critical: run.critical,
+        kept: run.kept,
+    }
+}
