@@ -1,5 +1,6 @@
 // Tries cases. Each is three files that arguments name, a circuit, rules and sites, of which any may be missing. The first is tried as a
-// text of lines, read and written back, and as a circuit, measured and evaluated; the rules are judged; and each site is matched.
+// text of lines, read and written back, and as a circuit, measured and evaluated; the rules are judged; each site is matched; and
+// the circuit is rewritten at all sites in order.
 use inspecting::print_evaluations;
 use inspecting::print_pair;
 use libc::STDOUT_FILENO;
@@ -9,12 +10,14 @@ use matching::print_judgements;
 use matching::print_matches;
 use printing::print_answer;
 use recoding::recode;
+use rewrites::print_rewriting;
 
 mod inspecting;
 mod loading;
 mod matching;
 mod printing;
 mod recoding;
+mod rewrites;
 
 fn print_name(i: usize) {
     let mut name = io::buffer();
@@ -50,7 +53,7 @@ fn try_circuit(i: usize) {
     }
 }
 
-// Judges the rules, if there are any, and matches the sites.
+// Judges the rules, if there are any, matches the sites, and rewrites the circuit at them.
 fn try_sites(i: usize, j: usize, k: usize) {
     let mut rules = [0u32; 6915];
     let patterns = read_file(j, &mut rules);
@@ -63,6 +66,8 @@ fn try_sites(i: usize, j: usize, k: usize) {
         print_judgements(&rules[..patterns]);
         io::write_all(STDOUT_FILENO, b", match");
         print_matches(&circuit[..gates], &rules[..patterns], &sites[..places]);
+        io::write_all(STDOUT_FILENO, b", rewrite");
+        print_rewriting(&circuit[..gates], &rules[..patterns], &sites[..places]);
     }
 }
 

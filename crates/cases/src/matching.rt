@@ -1,6 +1,6 @@
 // What the calls on rules and sites give for tables.
 use crate::printing::print_refusal;
-use crate::printing::print_verdict;
+use crate::printing::print_number;
 use rules::Judged;
 use rules::Matched;
 ghost use Prim.Native.Nat.{_≤_};
@@ -10,7 +10,7 @@ const LARGEST: u32 = 4_294_967_295;
 
 fn print_judgement(rules: &[u32], rule: u32) {
     match rules::judge(rules, rule) {
-        Judged::Verdict(verdict) => print_verdict(verdict),
+        Judged::Verdict(verdict) => print_number(verdict),
         Judged::Refused(refusal) => print_refusal(refusal),
     }
 }
@@ -39,7 +39,7 @@ pub fn print_judgements(rules: &[u32]) {
 
 fn print_match(circuit: &[u32], rules: &[u32], rule: u32, gate: u32, mask: u32) {
     match rules::match_site(circuit, rules, rule, gate, mask) {
-        Matched::Verdict(verdict) => print_verdict(verdict),
+        Matched::Verdict(verdict) => print_number(verdict),
         Matched::Refused(refusal) => print_refusal(refusal),
     }
 }

@@ -22,7 +22,7 @@ pub fn print_answer(answer: Answer) {
     }
 }
 
-pub fn print_verdict(verdict: u32) {
+pub fn print_number(number: u32) {
     io::write_all(STDOUT_FILENO, b" ");
-    io::print_decimal(STDOUT_FILENO, verdict as u64);
+    io::print_decimal(STDOUT_FILENO, number as u64);
 }

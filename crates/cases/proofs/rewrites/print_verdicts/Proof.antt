@@ -1,0 +1,54 @@
+use Prim.Native.Nat.{_-_}
+use lib.ListN.{length}
+use borrow.Author.Needs.{needs}
+use Rattle.cases.proofs.rewrites.print_verdicts.Statement.{statement}
+use Rattle.cases.proofs.rewrites.print_verdicts.Tie as tie
+
+abbrev Inv-loop : tie.InvT-loop
+Inv-loop verdicts i₀ i-end i = Unit {0}
+
+abbrev μ-loop : tie.MeasureT-loop
+μ-loop verdicts i₀ i-end i = length verdicts - i
+
+loop-holds : tie.Need-loop-holds Inv-loop μ-loop
+loop-holds c = search needs
+
+shared-slice-read-if1 : tie.Need-shared-slice-read-if1 Inv-loop μ-loop
+shared-slice-read-if1 c = search needs
+
+shared-slice-read-verdict-number : tie.Need-shared-slice-read-verdict-number Inv-loop μ-loop
+shared-slice-read-verdict-number c = search needs
+
+verdict-number-requires : tie.Need-verdict-number-requires Inv-loop μ-loop
+verdict-number-requires c κs = search needs
+
+print-number-requires : tie.Need-print-number-requires Inv-loop μ-loop
+print-number-requires c κs = search needs
+
+add-i : tie.Need-add-i Inv-loop μ-loop
+add-i c = search needs
+
+loop-less : tie.Need-loop-less Inv-loop μ-loop
+loop-less c = search needs
+
+loop-again : tie.Need-loop-again Inv-loop μ-loop
+loop-again c = search needs
+
+returns : tie.Need-returns Inv-loop μ-loop
+returns c = search needs
+
+pub print-verdicts-spec : {M : Type 1} → statement M
+print-verdicts-spec =
+    tie.close
+    (tie.spec
+    Inv-loop
+    μ-loop
+    loop-holds
+    shared-slice-read-if1
+    shared-slice-read-verdict-number
+    verdict-number-requires
+    print-number-requires
+    add-i
+    loop-less
+    loop-again
+    returns)
