@@ -1,6 +1,6 @@
 // What the calls on rules and sites give for tables.
-use crate::printing::print_refusal;
 use crate::printing::print_number;
+use crate::printing::print_refusal;
 use rules::Judged;
 use rules::Matched;
 ghost use Prim.Native.Nat.{_≤_};

@@ -46,7 +46,14 @@ fn print_verdicts(verdicts: &[u8]) {
 
 fn print_answer(answer: Rewritten) {
     match answer {
-        Rewritten::Done { lines, old_depth, old_critical, new_depth, new_critical, kept } => {
+        Rewritten::Done {
+            lines,
+            old_depth,
+            old_critical,
+            new_depth,
+            new_critical,
+            kept,
+        } => {
             print_number(lines);
             print_number(old_depth);
             print_number(old_critical);

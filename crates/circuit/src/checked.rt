@@ -29,7 +29,7 @@ use crate::reverse_depth::mark_outputs;
 use crate::reverse_depth::raise_gates;
 pub use crate::table::CLOSING;
 pub use crate::table::CONSTANTS;
-use crate::table::MAX_GATES;
+pub use crate::table::MAX_GATES;
 use crate::table::MAX_OUTPUTS;
 use crate::table::MAX_REFERENCES;
 use crate::table::closings_from;

@@ -19,7 +19,7 @@ use lines::Refusal;
 use table::MAX_OUTPUTS;
 
 // 01's numbers of the table that a fault lies in.
-const NO_TABLE: u32 = 0;
+pub const NO_TABLE: u32 = 0;
 
 pub const CIRCUIT_TABLE: u32 = 1;
 

@@ -8,22 +8,19 @@ mod run;
 
 use accepted::rewrite_accepted;
 use circuit::CIRCUIT_TABLE;
+use circuit::NO_TABLE;
 use circuit::checked::MAX_TABLE;
 use circuit::checked::is_partial;
 use circuit::checked::refusal;
 use lines::Refusal;
+use rules::RULES_TABLE;
+use rules::SITES_TABLE;
+use rules::checked::MAX_SITES;
 use rules::checked::rules_refusal;
 use rules::checked::sites_refusal;
 
-// 01's numbers of the tables that a refusal lies in.
-const NO_TABLE: u32 = 0;
-
-const RULES_TABLE: u32 = 2;
-
-const SITES_TABLE: u32 = 3;
-
-// As many sites as there can be, and so as many verdicts.
-const MAX_SITES: usize = 512;
+// As many verdicts as there can be sites.
+const MAX_VERDICTS: usize = MAX_SITES as usize;
 
 // How many lines the circuit handed back has, the pair of the circuit first read, the pair of the one handed back, and how many sites
 // were kept; or the refusal.
@@ -52,7 +49,7 @@ fn refused(number: u32, table: u32) -> Rewritten
 fn are_short(result: &[u32], work: &[u32], verdicts: &[u8]) -> bool
     ensures { λ r. ⌜ r ≡ areShort (now (result .entry)) (now (work .entry)) (now (verdicts .entry)) ⌝ }
 {
-    (result.len() < MAX_TABLE) | ((work.len() < MAX_TABLE) | (verdicts.len() < MAX_SITES))
+    (result.len() < MAX_TABLE) | ((work.len() < MAX_TABLE) | (verdicts.len() < MAX_VERDICTS))
 }
 
 // The circuit, trimmed and then rewritten at the sites in order, into `result`, and a verdict a site into `verdicts`.

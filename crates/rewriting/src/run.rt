@@ -16,6 +16,7 @@ ghost use Rattle.rewriting.specs.StepParts.{matchWithin, compared, settl
 ghost use Rattle.rewriting.specs.Verdict.{isTooLarge};
 use crate::replacing::replace;
 use circuit::checked::DepthPair;
+use circuit::checked::MAX_GATES;
 use circuit::checked::MAX_TABLE;
 use circuit::checked::pair;
 use circuit::checked::table_end;
@@ -23,12 +24,7 @@ use circuit::checked::trim;
 use rules::SiteMatch;
 use rules::checked::place;
 use rules::checked::site_match;
-
-// No circuit has more gates.
-const MAX_GATES: u32 = 2048;
-
-// Where the first site begins.
-const SITES_FROM: usize = 3;
+use rules::checked::sites_from;
 
 // What is handed on from site to site beside the working table: the pair of the circuit there, and how many sites were kept.
 pub struct Run {
@@ -182,8 +178,9 @@ pub fn run_sites(
     let mut candidate = [0u32; MAX_TABLE];
     let mut run = start;
     let count = sites[0] as usize;
+    let from = sites_from(sites);
     for i in 0..count {
-        let at = SITES_FROM + 3 * i;
+        let at = from + 3 * i;
         let s = run.step(
             rules,
             sites[at],

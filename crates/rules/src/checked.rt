@@ -21,6 +21,8 @@ use crate::judging::soundness_verdict;
 use crate::matching::failing;
 use crate::table;
 use crate::table::CONSTANTS;
+pub use crate::table::MAX_SITES;
+pub use crate::table::sites_from;
 use crate::verdict::match_judged;
 use circuit::checked::is_partial;
 

@@ -17,8 +17,10 @@ use judging::judgement;
 use lines::Refusal;
 use verdict::trimmed_verdict;
 
-// 01's number of the rules' table, for the refusals that lie in it.
-const RULES_TABLE: u32 = 2;
+// 01's numbers of the tables of rules and sites, for the refusals that lie in them.
+pub const RULES_TABLE: u32 = 2;
+
+pub const SITES_TABLE: u32 = 3;
 
 // As many references as the left side of a rule can have, and so as many bindings.
 pub const BINDINGS: usize = 23;

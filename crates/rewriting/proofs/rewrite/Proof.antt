@@ -45,7 +45,8 @@ returns : tie.Need-returns
 returns c =
     let a = c .before .before .before .before .before .before .before .before .before .args in
     ap (λ r. outcomeOf (rewrittenValues r) (a .result .now) (a .work .now) (a .verdicts .now)) (c .refused .ensures)
-    ∙ rewriting-circuit-partial (a .circuit .now) (a .rules .now) (a .sites .now) (a .result .now) (a .work .now) (a .verdicts .now) (sym (c .before .before .is-partial .ensures) ∙ c .before .if1 .taken)
+    ∙ rewriting-circuit-partial (a .circuit .now) (a .rules .now) (a .sites .now) (a .result .now) (a .work .now) (a .verdicts .now)
+    (sym (c .before .before .is-partial .ensures) ∙ c .before .if1 .taken)
 
 is-partial-requires-2 : tie.Need-is-partial-requires-2
 is-partial-requires-2 c κs = search needs
@@ -55,9 +56,12 @@ refused-requires-2 c κs = search needs
 
 returns-2 : tie.Need-returns-2
 returns-2 c =
-    let a = c .before .before .before .before .before .before .before .before .before .before .before .args in
+    let e1 = c .before .before .before in
+    let a = e1 .before .before .before .before .before .before .before .before .args in
     ap (λ r. outcomeOf (rewrittenValues r) (a .result .now) (a .work .now) (a .verdicts .now)) (c .refused2 .ensures)
-    ∙ rewriting-rules-partial (a .circuit .now) (a .rules .now) (a .sites .now) (a .result .now) (a .work .now) (a .verdicts .now) (circuit-whole (c .before .before .before)) (sym (c .before .before .is-partial2 .ensures) ∙ c .before .if2 .taken)
+    ∙ rewriting-rules-partial (a .circuit .now) (a .rules .now) (a .sites .now) (a .result .now) (a .work .now) (a .verdicts .now)
+    (circuit-whole e1)
+    (sym (c .before .before .is-partial2 .ensures) ∙ c .before .if2 .taken)
 
 is-partial-requires-3 : tie.Need-is-partial-requires-3
 is-partial-requires-3 c κs = search needs
@@ -67,9 +71,13 @@ refused-requires-3 c κs = search needs
 
 returns-3 : tie.Need-returns-3
 returns-3 c =
-    let a = c .before .before .before .before .before .before .before .before .before .before .before .before .before .args in
+    let e2 = c .before .before .before in
+    let e1 = e2 .before .before in
+    let a = e1 .before .before .before .before .before .before .before .before .args in
     ap (λ r. outcomeOf (rewrittenValues r) (a .result .now) (a .work .now) (a .verdicts .now)) (c .refused3 .ensures)
-    ∙ rewriting-sites-partial (a .circuit .now) (a .rules .now) (a .sites .now) (a .result .now) (a .work .now) (a .verdicts .now) (circuit-whole (c .before .before .before .before .before)) (rules-whole (c .before .before .before)) (sym (c .before .before .is-partial3 .ensures) ∙ c .before .if3 .taken)
+    ∙ rewriting-sites-partial (a .circuit .now) (a .rules .now) (a .sites .now) (a .result .now) (a .work .now) (a .verdicts .now)
+    (circuit-whole e1) (rules-whole e2)
+    (sym (c .before .before .is-partial3 .ensures) ∙ c .before .if3 .taken)
 
 are-short-requires : tie.Need-are-short-requires
 are-short-requires c κs = search needs
@@ -88,9 +96,14 @@ same-length-3 c = search needs
 
 returns-4 : tie.Need-returns-4
 returns-4 c =
-    let a = c .before .before .before .before .before .before .before .before .before .before .before .before .before .before .before .before .before .before .args in
+    let e3 = c .before .before .before .before .before .before in
+    let e2 = e3 .before .before in
+    let e1 = e2 .before .before in
+    let a = e1 .before .before .before .before .before .before .before .before .args in
     ap (λ r. outcomeOf (rewrittenValues r) (a .result .now) (a .work .now) (a .verdicts .now)) (c .refused4 .ensures)
-    ∙ rewriting-short (a .circuit .now) (a .rules .now) (a .sites .now) (a .result .now) (a .work .now) (a .verdicts .now) (circuit-whole (c .before .before .before .before .before .before .before .before .before .before)) (rules-whole (c .before .before .before .before .before .before .before .before)) (sites-whole (c .before .before .before .before .before .before)) (sym (c .before .before .are-short .ensures) ∙ c .before .if4 .taken)
+    ∙ rewriting-short (a .circuit .now) (a .rules .now) (a .sites .now) (a .result .now) (a .work .now) (a .verdicts .now)
+    (circuit-whole e1) (rules-whole e2) (sites-whole e3)
+    (sym (c .before .before .are-short .ensures) ∙ c .before .if4 .taken)
 
 refusal-requires : tie.Need-refusal-requires
 refusal-requires c κs = search needs
@@ -109,9 +122,15 @@ same-length-6 c = search needs
 
 returns-5 : tie.Need-returns-5
 returns-5 c =
-    let a = c .before .before .before .before .before .before .before .before .before .before .before .before .before .before .before .before .before .before .before .before .args in
+    let e4 = c .before .before .before in
+    let e3 = e4 .before .before .before .before .before in
+    let e2 = e3 .before .before in
+    let e1 = e2 .before .before in
+    let a = e1 .before .before .before .before .before .before .before .before .args in
     ap (λ r. outcomeOf (rewrittenValues r) (a .result .now) (a .work .now) (a .verdicts .now)) (c .refused5 .ensures)
-    ∙ rewriting-circuit-refused (a .circuit .now) (a .rules .now) (a .sites .now) (a .result .now) (a .work .now) (a .verdicts .now) (circuit-whole (c .before .before .before .before .before .before .before .before .before .before .before .before)) (rules-whole (c .before .before .before .before .before .before .before .before .before .before)) (sites-whole (c .before .before .before .before .before .before .before .before)) (enough-room (c .before .before .before)) (c .before .before .refusal .result) (c .before .before .refusal .ensures) (c .before .if5 .taken)
+    ∙ rewriting-circuit-refused (a .circuit .now) (a .rules .now) (a .sites .now) (a .result .now) (a .work .now) (a .verdicts .now)
+    (circuit-whole e1) (rules-whole e2) (sites-whole e3) (enough-room e4)
+    (c .before .before .refusal .result) (c .before .before .refusal .ensures) (c .before .if5 .taken)
 
 rules-refusal-requires : tie.Need-rules-refusal-requires
 rules-refusal-requires c κs = search needs
@@ -130,9 +149,16 @@ same-length-9 c = search needs
 
 returns-6 : tie.Need-returns-6
 returns-6 c =
-    let a = c .before .before .before .before .before .before .before .before .before .before .before .before .before .before .before .before .before .before .before .before .before .before .args in
+    let e5 = c .before .before .before in
+    let e4 = e5 .before .before in
+    let e3 = e4 .before .before .before .before .before in
+    let e2 = e3 .before .before in
+    let e1 = e2 .before .before in
+    let a = e1 .before .before .before .before .before .before .before .before .args in
     ap (λ r. outcomeOf (rewrittenValues r) (a .result .now) (a .work .now) (a .verdicts .now)) (c .refused6 .ensures)
-    ∙ rewriting-rules-refused (a .circuit .now) (a .rules .now) (a .sites .now) (a .result .now) (a .work .now) (a .verdicts .now) (circuit-whole (c .before .before .before .before .before .before .before .before .before .before .before .before .before .before)) (rules-whole (c .before .before .before .before .before .before .before .before .before .before .before .before)) (sites-whole (c .before .before .before .before .before .before .before .before .before .before)) (enough-room (c .before .before .before .before .before)) (circuit-accepted (c .before .before .before)) (c .before .before .rules-refusal .result) (c .before .before .rules-refusal .ensures) (c .before .if6 .taken)
+    ∙ rewriting-rules-refused (a .circuit .now) (a .rules .now) (a .sites .now) (a .result .now) (a .work .now) (a .verdicts .now)
+    (circuit-whole e1) (rules-whole e2) (sites-whole e3) (enough-room e4) (circuit-accepted e5)
+    (c .before .before .rules-refusal .result) (c .before .before .rules-refusal .ensures) (c .before .if6 .taken)
 
 sites-refusal-requires : tie.Need-sites-refusal-requires
 sites-refusal-requires c κs = search needs
@@ -151,9 +177,17 @@ same-length-12 c = search needs
 
 returns-7 : tie.Need-returns-7
 returns-7 c =
-    let a = c .before .before .before .before .before .before .before .before .before .before .before .before .before .before .before .before .before .before .before .before .before .before .before .before .args in
+    let e6 = c .before .before .before in
+    let e5 = e6 .before .before in
+    let e4 = e5 .before .before in
+    let e3 = e4 .before .before .before .before .before in
+    let e2 = e3 .before .before in
+    let e1 = e2 .before .before in
+    let a = e1 .before .before .before .before .before .before .before .before .args in
     ap (λ r. outcomeOf (rewrittenValues r) (a .result .now) (a .work .now) (a .verdicts .now)) (c .refused7 .ensures)
-    ∙ rewriting-sites-refused (a .circuit .now) (a .rules .now) (a .sites .now) (a .result .now) (a .work .now) (a .verdicts .now) (circuit-whole (c .before .before .before .before .before .before .before .before .before .before .before .before .before .before .before .before)) (rules-whole (c .before .before .before .before .before .before .before .before .before .before .before .before .before .before)) (sites-whole (c .before .before .before .before .before .before .before .before .before .before .before .before)) (enough-room (c .before .before .before .before .before .before .before)) (circuit-accepted (c .before .before .before .before .before)) (rules-accepted (c .before .before .before)) (c .before .before .sites-refusal .result) (c .before .before .sites-refusal .ensures) (c .before .if7 .taken)
+    ∙ rewriting-sites-refused (a .circuit .now) (a .rules .now) (a .sites .now) (a .result .now) (a .work .now) (a .verdicts .now)
+    (circuit-whole e1) (rules-whole e2) (sites-whole e3) (enough-room e4) (circuit-accepted e5) (rules-accepted e6)
+    (c .before .before .sites-refusal .result) (c .before .before .sites-refusal .ensures) (c .before .if7 .taken)
 
 rewrite-accepted-requires : tie.Need-rewrite-accepted-requires
 rewrite-accepted-requires c κs = (
@@ -178,9 +212,18 @@ same-length-15 c = search needs
 
 returns-8 : tie.Need-returns-8
 returns-8 c =
-    let a = c .before .before .before .before .before .before .before .before .before .before .before .before .before .before .before .before .before .before .before .before .before .before .before .before .before .before .before .before .before .before .before .before .before .args in
+    let e7 = c .before .before .before .before .before .before .before .before .before .before in
+    let e6 = e7 .before .before in
+    let e5 = e6 .before .before in
+    let e4 = e5 .before .before in
+    let e3 = e4 .before .before .before .before .before in
+    let e2 = e3 .before .before in
+    let e1 = e2 .before .before in
+    let a = e1 .before .before .before .before .before .before .before .before .args in
     let r = c .before .before .before .before .before .before .rewrite-accepted in
-    rewriting-accepted (a .circuit .now) (a .rules .now) (a .sites .now) (a .result .now) (a .work .now) (a .verdicts .now) (circuit-whole (c .before .before .before .before .before .before .before .before .before .before .before .before .before .before .before .before .before .before .before .before .before .before .before .before .before)) (rules-whole (c .before .before .before .before .before .before .before .before .before .before .before .before .before .before .before .before .before .before .before .before .before .before .before)) (sites-whole (c .before .before .before .before .before .before .before .before .before .before .before .before .before .before .before .before .before .before .before .before .before)) (enough-room (c .before .before .before .before .before .before .before .before .before .before .before .before .before .before .before .before)) (circuit-accepted (c .before .before .before .before .before .before .before .before .before .before .before .before .before .before)) (rules-accepted (c .before .before .before .before .before .before .before .before .before .before .before .before)) (sites-accepted (c .before .before .before .before .before .before .before .before .before .before)) (rewrittenValues (r .result)) (r .last .1 .1 .1 .0) (r .last .1 .1 .1 .1 .0) (r .last .1 .1 .1 .1 .1 .0) (r .ensures .0) (r .ensures .1 .0) (r .ensures .1 .1)
+    rewriting-accepted (a .circuit .now) (a .rules .now) (a .sites .now) (a .result .now) (a .work .now) (a .verdicts .now)
+    (circuit-whole e1) (rules-whole e2) (sites-whole e3) (enough-room e4) (circuit-accepted e5) (rules-accepted e6) (sites-accepted e7)
+    (rewrittenValues (r .result)) (r .last .1 .1 .1 .0) (r .last .1 .1 .1 .1 .0) (r .last .1 .1 .1 .1 .1 .0) (r .ensures .0) (r .ensures .1 .0) (r .ensures .1 .1)
 
 pub rewrite-spec : {M : Type 1} → statement M
 rewrite-spec =

@@ -1,12 +1,13 @@
+use mathlib.Core.List.{List}
 use mathlib.Core.Path.{_≡_, refl, sym, ap, _∙_}
-use Prim.Native.Nat.{_-_, _≤_, _<_}
+use Prim.Native.Nat.{ℕ, _+_, _*_, _-_, _≤_, _<_}
 use native.Mathlib.Omega.{arith}
-use lib.ListN.{length}
+use lib.ListN.{length, getD}
 use borrow.Author.Needs.{needs}
 use Rattle.lists.proofs.Below.{below-length}
 use Rattle.lists.proofs.Written.{Written, written-none, written-more}
-use Rattle.rules.specs.SiteTable.{siteCount}
-use Rattle.rewriting.specs.Run.{State, afterSites, verdictAt, verdictsOf}
+use Rattle.rules.specs.SiteTable.{siteCount, sitesFrom, siteAt}
+use Rattle.rewriting.specs.Run.{State, Step, step, afterSites, verdictAt, verdictsOf}
 use Rattle.rewriting.specs.RewriteCall.{maxTable}
 use Rattle.rewriting.specs.RunState.{stateOf, stepOf, Held}
 use Rattle.rewriting.proofs.FrontLaws.{written-over}
@@ -16,12 +17,19 @@ use Rattle.rewriting.proofs.run.run_sites.Statement.{statement}
 use Rattle.rewriting.proofs.run.run_sites.Tie as tie
 
 abbrev Inv-loop : tie.InvT-loop
-Inv-loop rules sites work₀ verdicts₀ candidate₀ run₀ count i₀ work verdicts candidate run i =
+Inv-loop rules sites work₀ verdicts₀ candidate₀ run₀ count from i₀ work verdicts candidate run i =
     (i ≤ count) × (length work ≡ length work₀) × (length candidate ≡ maxTable) × Held run work
     × (stateOf run work ≡ afterSites rules sites (stateOf run₀ work₀) i) × Written (verdictsOf rules sites (stateOf run₀ work₀) count) verdicts₀ verdicts i
 
 abbrev μ-loop : tie.MeasureT-loop
-μ-loop rules sites work₀ verdicts₀ candidate₀ run₀ count i₀ work verdicts candidate run i = count - i
+μ-loop rules sites work₀ verdicts₀ candidate₀ run₀ count from i₀ work verdicts candidate run i = count - i
+
+-- the site that was read where the sites were found to begin
+read-site : (rules sites : List ℕ) (s : State) (i from : ℕ) → from ≡ sitesFrom sites → (x : Step)
+    → x ≡ step rules s (record { rule = getD sites (from + 3 * i) 0; gate = getD sites (from + 3 * i + 1) 0; mask = getD sites (from + 3 * i + 2) 0 })
+    → x ≡ step rules s (siteAt sites i)
+read-site rules sites s i from e x h =
+    h ∙ ap (λ f. step rules s (record { rule = getD sites (f + 3 * i) 0; gate = getD sites (f + 3 * i + 1) 0; mask = getD sites (f + 3 * i + 2) 0 })) e
 
 shared-slice-read-count : tie.Need-shared-slice-read-count Inv-loop μ-loop
 shared-slice-read-count c = search needs
@@ -29,9 +37,12 @@ shared-slice-read-count c = search needs
 cast-count : tie.Need-cast-count Inv-loop μ-loop
 cast-count c = search needs
 
+sites-from-requires : tie.Need-sites-from-requires Inv-loop μ-loop
+sites-from-requires c κs = search needs
+
 loop-holds : tie.Need-loop-holds Inv-loop μ-loop
 loop-holds c =
-    let s = c .before .before .before .before .before in
+    let s = c .before .before .before .before .before .before in
     let a = s .args in
     (search needs, refl, search needs, s .pre .1 .1 .0, sym (after-none (a .rules .now) (a .sites .now) (stateOf (a .start) (a .work .now))), written-none 0 _ _)
 
@@ -70,22 +81,23 @@ slice-aggregate-step c = search needs
 
 step-requires : tie.Need-step-requires Inv-loop μ-loop
 step-requires c κs =
-    let s = c .before .before .before .before .before .before .before .before .before .before .before .before in
+    let s = c .before .before .before .before .before .before .before .before .before .before .before .before .before in
     let a = s .args in
     let l = c .before .before .before .before .before .before .loop in
     (s .pre .0, (omega (arith, l .inv .2), (l .inv .3, omega (arith, kept-limit (a .rules .now) (a .sites .now) (stateOf (a .start) (a .work .now)) (l .i), ap (λ (x : State). x .kept) (l .inv .4), s .pre .1 .0, s .pre .1 .1 .1 .0))))
 
 cast-verdicts : tie.Need-cast-verdicts Inv-loop μ-loop
 cast-verdicts c =
-    let s = c .before .before .before .before .before .before .before .before .before .before .before .before .before .before .before .before .before in
+    let s = c .before .before .before .before .before .before .before .before .before .before .before .before .before .before .before .before .before .before in
     let a = s .args in
     let l = c .before .before .before .before .before .before .before .before .before .before .before .loop in
     let t = c .before .before .before .before .step in
-    omega (arith, turn-limit (a .rules .now) (a .sites .now) (stateOf (a .start) (a .work .now)) (l .i) (stateOf (l .run) (l .work)) (l .inv .4) (stepOf (t .result) (t .last .1 .1 .1 .1 .1 .1 .0)) (t .ensures .0))
+    let f = c .before .before .before .before .before .before .before .before .before .before .before .before .sites-from in
+    omega (arith, turn-limit (a .rules .now) (a .sites .now) (stateOf (a .start) (a .work .now)) (l .i) (stateOf (l .run) (l .work)) (l .inv .4) (stepOf (t .result) (t .last .1 .1 .1 .1 .1 .1 .0)) (read-site (a .rules .now) (a .sites .now) (stateOf (l .run) (l .work)) (l .i) (f .result) (f .ensures) (stepOf (t .result) (t .last .1 .1 .1 .1 .1 .1 .0)) (t .ensures .0)))
 
 slice-write-verdicts : tie.Need-slice-write-verdicts Inv-loop μ-loop
 slice-write-verdicts c =
-    let s = c .before .before .before .before .before .before .before .before .before .before .before .before .before .before .before .before .before in
+    let s = c .before .before .before .before .before .before .before .before .before .before .before .before .before .before .before .before .before .before in
     let a = s .args in
     let l = c .before .before .before .before .before .before .before .before .before .before .before .loop in
     omega (arith, l .inv .5 .long, s .pre .1 .0, s .pre .1 .1 .1 .1)
@@ -98,7 +110,7 @@ loop-less c = search needs
 
 loop-again : tie.Need-loop-again Inv-loop μ-loop
 loop-again c =
-    let s = c .before .before .before .before .before .before .before .before .before .before .before .before .before .before .before .before .before .before in
+    let s = c .before .before .before .before .before .before .before .before .before .before .before .before .before .before .before .before .before .before .before in
     let a = s .args in
     let l = c .before .before .before .before .before .before .before .before .before .before .before .before .loop in
     let t = c .before .before .before .before .before .step in
@@ -106,15 +118,17 @@ loop-again c =
     let start = stateOf (a .start) (a .work .now) in
     let x = stepOf (t .result) (t .last .1 .1 .1 .1 .1 .1 .0) in
     let before = stateOf (l .run) (l .work) in
+    let f = c .before .before .before .before .before .before .before .before .before .before .before .before .before .sites-from in
+    let site = read-site (a .rules .now) (a .sites .now) before (l .i) (f .result) (f .ensures) x (t .ensures .0) in
     let xs = verdictsOf (a .rules .now) (a .sites .now) start (siteCount (a .sites .now)) in
     let long : length xs ≡ siteCount (a .sites .now) = below-length (verdictAt (a .rules .now) (a .sites .now) start) (siteCount (a .sites .now)) in (
       omega (arith, below),
       t .kept .1 .1 .1 .1 .1 .1 .0 ∙ l .inv .1,
       t .kept .1 .1 .1 .1 .1 .0 ∙ l .inv .2,
       t .ensures .1,
-      turn-state (a .rules .now) (a .sites .now) start (l .i) before (l .inv .4) x (t .ensures .0),
+      turn-state (a .rules .now) (a .sites .now) start (l .i) before (l .inv .4) x site,
       written-more 0 xs (a .verdicts .now) (l .verdicts) (l .i) (t .result .verdict) (l .inv .5) (omega (arith, long, below)) (omega (arith, below, s .pre .1 .0, s .pre .1 .1 .1 .1))
-          (turn-verdict (a .rules .now) (a .sites .now) start (l .i) before (l .inv .4) x (t .ensures .0) (siteCount (a .sites .now)) below),
+          (turn-verdict (a .rules .now) (a .sites .now) start (l .i) before (l .inv .4) x site (siteCount (a .sites .now)) below),
     )
 
 same-length : tie.Need-same-length Inv-loop μ-loop
@@ -125,7 +139,7 @@ same-length-2 c = c .before .loop .inv .5 .long
 
 returns : tie.Need-returns Inv-loop μ-loop
 returns c =
-    let s = c .before .before .before .before .before .before .before in
+    let s = c .before .before .before .before .before .before .before .before in
     let a = s .args in
     let l = c .before .loop in
     let e : l .i ≡ siteCount (a .sites .now) = omega arith in
@@ -147,6 +161,7 @@ run-sites-spec =
     μ-loop
     shared-slice-read-count
     cast-count
+    sites-from-requires
     loop-holds
     mul-at
     add-at

@@ -29,8 +29,11 @@ place-requires : tie.Need-place-requires
 place-requires c κs =
     let s = c .before .before .before .before .before .before .before .before .before .before in
     let a = s .args in
-    let m = c .before .before .before .before .before .match-within in
-    (s .pre .0, replacing-rule (a .work .now) (a .rules .now) (record { rule = a .rule; gate = a .gate; mask = a .mask }) (s .pre .1 .1 .0 .table) (s .pre .0) (m .result) (m .ensures) (c .before .before .before .before .match .keys1))
+    let m = c .before .before .before .before .before .match-within in (
+      s .pre .0,
+      replacing-rule (a .work .now) (a .rules .now) (record { rule = a .rule; gate = a .gate; mask = a .mask }) (s .pre .1 .1 .0 .table) (s .pre .0)
+          (m .result) (m .ensures) (c .before .before .before .before .match .keys1),
+    )
 
 replace-requires : tie.Need-replace-requires
 replace-requires c κs =
@@ -39,7 +42,8 @@ replace-requires c κs =
     let m = c .before .before .before .before .before .before .before .before .match-within in
     let end = c .before .before .before .before .before .table-end in
     let p = c .before .before .place in
-    let (rule, gate, bound, size) = replacing-asks (a .work .now) (a .rules .now) (record { rule = a .rule; gate = a .gate; mask = a .mask }) (s .pre .1 .1 .0 .table) (s .pre .0) (m .result) (m .ensures) (c .before .before .before .before .before .before .before .match .keys1) (end .result) (end .ensures) (p .result) (p .ensures) in
+    let (rule, gate, bound, size) = replacing-asks (a .work .now) (a .rules .now) (record { rule = a .rule; gate = a .gate; mask = a .mask }) (s .pre .1 .1 .0 .table) (s .pre .0)
+    (m .result) (m .ensures) (c .before .before .before .before .before .before .before .match .keys1) (end .result) (end .ensures) (p .result) (p .ensures) in
     (front-well-formed (a .work .now) (s .pre .1 .1 .0 .table) (end .result) (end .ensures), (rule, (gate, (bound, (size, s .pre .1 .0)))))
 
 settle-requires : tie.Need-settle-requires
@@ -49,8 +53,12 @@ settle-requires c κs =
     let m = c .before .before .before .before .before .before .before .before .before .before .before .before .before .match-within in
     let end = c .before .before .before .before .before .before .before .before .before .before .table-end in
     let p = c .before .before .before .before .before .before .before .place in
-    let r = c .before .before .before .before .replace in
-    (replaced-well-formed (a .work .now) (a .rules .now) (record { rule = a .rule; gate = a .gate; mask = a .mask }) (s .pre .1 .1 .0 .table) (s .pre .0) (m .result) (m .ensures) (c .before .before .before .before .before .before .before .before .before .before .before .before .match .keys1) (end .result) (end .ensures) (p .result) (p .ensures) (a .candidate .now) (r .last .1 .1 .1 .1 .1 .0) (r .ensures), (s .pre .1 .1 .0, s .pre .1 .1 .1))
+    let r = c .before .before .before .before .replace in (
+      replaced-well-formed (a .work .now) (a .rules .now) (record { rule = a .rule; gate = a .gate; mask = a .mask }) (s .pre .1 .1 .0 .table) (s .pre .0)
+          (m .result) (m .ensures) (c .before .before .before .before .before .before .before .before .before .before .before .before .match .keys1) (end .result) (end .ensures) (p .result) (p .ensures)
+          (a .candidate .now) (r .last .1 .1 .1 .1 .1 .0) (r .ensures),
+      (s .pre .1 .1 .0, s .pre .1 .1 .1),
+    )
 
 same-length : tie.Need-same-length
 same-length c = search needs
@@ -66,8 +74,12 @@ returns c =
     let end = c .before .before .before .before .before .before .before .before .before .before .before .before .before .table-end in
     let p = c .before .before .before .before .before .before .before .before .before .before .place in
     let r = c .before .before .before .before .before .before .before .replace in
-    let t = c .before .before .settle in
-    (t .ensures .0 ∙ replaced-step (a .work .now) (a .rules .now) (record { rule = a .rule; gate = a .gate; mask = a .mask }) (s .pre .1 .1 .0 .table) (s .pre .0) (m .result) (m .ensures) (c .before .before .before .before .before .before .before .before .before .before .before .before .before .before .before .match .keys1) (end .result) (end .ensures) (p .result) (p .ensures) (a .candidate .now) (r .last .1 .1 .1 .1 .1 .0) (r .ensures) (a .self .kept), t .ensures .1)
+    let t = c .before .before .settle in (
+      t .ensures .0 ∙ replaced-step (a .work .now) (a .rules .now) (record { rule = a .rule; gate = a .gate; mask = a .mask }) (s .pre .1 .1 .0 .table) (s .pre .0)
+          (m .result) (m .ensures) (c .before .before .before .before .before .before .before .before .before .before .before .before .before .before .before .match .keys1) (end .result) (end .ensures) (p .result) (p .ensures)
+          (a .candidate .now) (r .last .1 .1 .1 .1 .1 .0) (r .ensures) (a .self .kept),
+      t .ensures .1,
+    )
 
 same-length-3 : tie.Need-same-length-3
 same-length-3 c = search needs
