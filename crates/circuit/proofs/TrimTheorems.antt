@@ -108,12 +108,13 @@ pub evaluation-accepted : (t : List ℕ) → WellFormed t → (inputBytes output
 unfolding evaluating
 evaluation-accepted t w i o = rw (whole t (w .sized), well-formed-accepted t w)
 
-trim-keeps-evaluation : (t : List ℕ) → WellFormed t → (inputBytes outputBytes : List ℕ)
-    → evaluating (trimOf t) inputBytes outputBytes ≡ evaluating t inputBytes outputBytes
-trim-keeps-evaluation t w i o =
-    let n = trim-keeps-counts t w in
-    evaluation-accepted (trimOf t) (trimmed-is-well-formed t w) i o
-    ∙ ap₂ (λ a b. answer (eqb (length i) a) b (evaluate (decode (trimOf t)) i)) (n .0) (n .1)
+-- two tables of circuits with the same inputs, number of outputs and outputs' values
+pub same-evaluation : (t t′ : List ℕ) → WellFormed t → WellFormed t′ → inputs t′ ≡ inputs t → outputs t′ ≡ outputs t
+    → ((bytes : List ℕ) → length bytes ≡ inputs t → evaluate (decode t′) bytes ≡ evaluate (decode t) bytes)
+    → (inputBytes outputBytes : List ℕ) → evaluating t′ inputBytes outputBytes ≡ evaluating t inputBytes outputBytes
+same-evaluation t t′ w w′ m n same i o =
+    evaluation-accepted t′ w′ i o
+    ∙ ap₂ (λ a b. answer (eqb (length i) a) b (evaluate (decode t′) i)) m n
     ∙ go (eqb (length i) (inputs t)) refl
     ∙ sym (evaluation-accepted t w i o)
   where
@@ -122,13 +123,13 @@ trim-keeps-evaluation t w i o =
         first (ltb (length o) maxOutputs) (leaving (refused 2 noTable) o)
         (first (not asMany) (leaving (refused 1 noTable) o) (leaving (gives (n ∷ [])) (over bits o)))
 
-    go : (b : Bool) → eqb (length i) (inputs t) ≡ b → answer b (outputs t) (evaluate (decode (trimOf t)) i) ≡ answer b (outputs t) (evaluate (decode t) i)
-    go true e = ap (answer true (outputs t)) (trim-keeps-outputs t w i (eqb-true (length i) (inputs t) e))
+    go : (b : Bool) → eqb (length i) (inputs t) ≡ b → answer b (outputs t) (evaluate (decode t′) i) ≡ answer b (outputs t) (evaluate (decode t) i)
+    go true e = ap (answer true (outputs t)) (same i (eqb-true (length i) (inputs t) e))
     go false e = refl
 
 pub trim-keeps-calls : TrimKeepsCalls
 trim-keeps-calls t w = (
-  trim-keeps-evaluation t w,
+  same-evaluation t (trimOf t) w (trimmed-is-well-formed t w) (trim-keeps-counts t w .0) (trim-keeps-counts t w .1) (trim-keeps-outputs t w),
   measurement-well-formed (trimOf t) (trimmed-is-well-formed t w)
       ∙ ap₂ (λ d n. gives (d ∷ n ∷ [])) (trim-keeps-depth t w) (trim-keeps-critical-count t w)
       ∙ sym (measurement-well-formed t w),

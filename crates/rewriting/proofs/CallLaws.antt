@@ -148,10 +148,12 @@ refusal-keeps-buffers circuit rules sites result work verdicts number table e =
     let q = rewriting-leaves number table result work verdicts circuit rules sites e in
     (ap (λ (o : Outcome). o .result) q, ap (λ (o : Outcome). o .work) q, ap (λ (o : Outcome). o .verdicts) q)
 
--- what a success says: no test applied, and the numbers are the defined ones
+-- what a success says: no test applied, the numbers are the defined ones, and so is all that it leaves
 pub rewriting-given : (circuit rules sites result work verdicts values : List ℕ)
     → rewriting circuit rules sites result work verdicts .answer ≡ gives values
     → (refusal circuit ≡ 0) × (rulesRefusal rules ≡ 0) × (sitesRefusal sites ≡ 0) × (values ≡ doneValues circuit rules sites)
+    × (rewriting circuit rules sites result work verdicts
+    ≡ outcomeOf (gives (doneValues circuit rules sites)) (over (encode (finalState circuit rules sites .circuit)) result) work (over (allVerdicts circuit rules sites) verdicts))
 unfolding rewriting
 rewriting-given circuit rules sites result work verdicts values e =
     let a = answered (isPartial 3 circuit) 1 circuitTable result work verdicts _ values e in
@@ -165,4 +167,5 @@ rewriting-given circuit rules sites result work verdicts values e =
       eqb-true _ _ (not-false _ (g .0)),
       eqb-true _ _ (not-false _ (h .0)),
       cc,
+      rw (a .0, b .0, c .0, d .0, f .0, g .0, h .0),
     )

@@ -2,12 +2,13 @@
 use mathlib.Core.Path.{_≡_, refl, sym, ap, _∙_}
 use Prim.Native.Nat.{ℕ, _≤_, _<_}
 use native.Mathlib.Omega.{arith}
-use lib.ListN.{getD, length-map}
+use lib.ListN.{length, getD, length-map}
 use borrow.Author.Tests.{ltb-false}
 use Rattle.lists.proofs.Below.{below-length, below-element, below-each}
 use Rattle.circuit.specs.Circuit.{Circuit}
-use Rattle.circuit.specs.Table.{decode, encode}
+use Rattle.circuit.specs.Table.{inputs, outputs, decode, encode}
 use Rattle.circuit.specs.WellFormed.{WellFormed}
+use Rattle.circuit.specs.Evaluation.{evaluate}
 use Rattle.circuit.specs.Depth.{circuitDepth}
 use Rattle.circuit.specs.Critical.{criticalCount}
 use Rattle.circuit.proofs.TableLaws.{outputs-length}
@@ -21,12 +22,13 @@ use Rattle.rules.proofs.SubstitutionLaws.{gate-from, gate-to}
 use Rattle.rewriting.specs.Replacement.{renaming, replace}
 use Rattle.rewriting.specs.Pair.{pairOf, isLower}
 use Rattle.rewriting.specs.Run.{State, startState, step, verdictAt, stateAt, finalState, allVerdicts}
-use Rattle.rewriting.specs.RewriteCall.{doneValues}
-use Rattle.rewriting.specs.Theorems.{ReplacementCounts, ReplacementIsWellFormed, ReplacementKeepsOutputs, PairBeforeTrim, RunIsSafe, SuccessIsSafe, SuccessIsBounded}
+use Rattle.rewriting.specs.RewriteCall.{Outcome, doneValues}
+use Rattle.rewriting.specs.Theorems.{ReplacementCounts, ReplacementIsWellFormed, ReplacementKeepsOutputs, PairBeforeTrim, RunIsSafe, SuccessIsSafe, SuccessLeavesTable, SuccessKeepsEvaluation, SuccessIsBounded}
 use Rattle.rewriting.proofs.ReplacementLaws.{replace-length, replace-valid, replace-limited, replace-evaluate}
 use Rattle.rewriting.proofs.StepLaws.{verdict-limit, replaced-pair, kept-site-lowers, other-site-leaves}
 use Rattle.rewriting.proofs.RunLaws.{after-none, after-more, kept-zeros, running-after, running-well-formed}
 use Rattle.circuit.proofs.FrontLaws.{trim-encode}
+use Rattle.circuit.proofs.TrimTheorems.{same-evaluation}
 use Rattle.rewriting.proofs.CallLaws.{rewriting-given}
 
 -- a circuit whose table is well formed
@@ -96,10 +98,23 @@ run-is-safe circuit rules sites w r =
 
 pub success-is-safe : SuccessIsSafe
 success-is-safe circuit rules sites result work verdicts values e =
-    let (a, b, d, v) = rewriting-given circuit rules sites result work verdicts values e in
+    let (a, b, d, v, o) = rewriting-given circuit rules sites result work verdicts values e in
     let w = accepted-is-well-formed circuit .0 a in
     let r = accepted-rules-are-well-formed rules .0 b in
     (w, r, accepted-sites-are-well-formed sites .0 d, v, run-is-safe circuit rules sites w r)
+
+pub success-leaves-table : SuccessLeavesTable
+success-leaves-table circuit rules sites result work verdicts values e =
+    let (a, b, d, v, q) = rewriting-given circuit rules sites result work verdicts values e in
+    (ap (λ (o : Outcome). o .result) q, ap (λ (o : Outcome). o .verdicts) q)
+
+pub success-keeps-evaluation : SuccessKeepsEvaluation
+success-keeps-evaluation circuit rules sites result work verdicts values e =
+    let (w, r, s, v, safe) = success-is-safe circuit rules sites result work verdicts values e in
+    let c = finalState circuit rules sites .circuit in
+    let m : inputs (encode c) ≡ inputs circuit = ap (λ (x : Circuit). x .inputs) (decode-after-encode c) ∙ safe .same-inputs in
+    let n : outputs (encode c) ≡ outputs circuit = sym (outputs-length (encode c)) ∙ ap (λ (x : Circuit). length (x .outputs)) (decode-after-encode c) ∙ safe .output-count in
+    same-evaluation circuit (encode c) w (safe .well-formed) m n (λ bytes h. ap (λ x. evaluate x bytes) (decode-after-encode c) ∙ safe .same-outputs bytes h)
 
 pub success-is-bounded : SuccessIsBounded
 unfolding doneValues

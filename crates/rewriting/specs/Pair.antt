@@ -14,6 +14,7 @@ pairOf c = record { depth = circuitDepth c; critical = criticalCount c }
 unfoldable pub isLower : (new old : DepthPair) → Bool
 isLower new old = ltb (new .depth) (old .depth) || (eqb (new .depth) (old .depth) && ltb (new .critical) (old .critical))
 
--- A pair as one number, 2,049 D + N: as no circuit has an N above 2,048, a lower pair weighs less (`LowerWeighsLess` in Theorems.antt).
+-- A pair as one number, 2,049 D + N: as no circuit within the limits has an N above 2,048, a lower pair weighs less (`LowerWeighsLess` in
+-- Theorems.antt).
 abbrev pub weight : DepthPair → ℕ
 weight p = (maxGates + 1) * p .depth + p .critical

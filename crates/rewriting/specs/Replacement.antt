@@ -16,7 +16,7 @@ unfoldable pub instanceOf : (start gate : ℕ) (bindings : List ℕ) → (r : �
 instanceOf start gate b r = first (ltb r start) (boundTo b r) (gate + (r - start))
 
 -- 01, Sites, 10 and 11: what reference v of the circuit becomes, where the gate becomes `closing` and `count` gates take its place. What is
--- below the gate stays; one gate less and the right gates more are before whatever is later.
+-- below the gate stays; what is later moves up by `count` gates and down by the one that they replace.
 unfoldable pub renumber : (gate closing count : ℕ) → (v : ℕ) → ℕ
 renumber gate closing count v =
     first (ltb v gate) v
@@ -52,6 +52,7 @@ replace c u gate b =
 abbrev pub AllBound : (start : ℕ) (bindings : List ℕ) → Type 0
 AllBound start b = (r : ℕ) → r < start → 0 < getD b r 0
 
--- What whoever replaces by bindings relies on, and a substitution has: constants and holes are bound, to references below the gate.
+-- What the replacing code relies on: constants and holes are bound, to references below the gate. The bindings of a match are (law
+-- `bound-below`).
 abbrev pub BoundBelow : Rule → (gate : ℕ) (bindings : List ℕ) → Type 0
 BoundBelow u gate b = (r : ℕ) → r < firstGate (u .holes) → (0 < getD b r 0) × (boundTo b r < gate)

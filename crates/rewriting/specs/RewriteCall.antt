@@ -33,7 +33,8 @@ pub record Outcome : Type 0 where
   pub work : Option (List ℕ)
   pub verdicts : List ℕ
 
--- 01, Sites, 19: after a success the working table is free.
+-- An answer and the buffers, as the contract compares them with `rewriting`. 01, Sites, 19: after a success the working table is free,
+-- so what it then holds is left out.
 abbrev pub outcomeOf : Result → (result work verdicts : List ℕ) → Outcome
 outcomeOf (refused number table) result work verdicts =
     record { answer = refused number table; result = result; work = some work; verdicts = verdicts }

@@ -1,4 +1,4 @@
--- 01, Sites, 16: what holds of a whole list of sites, kept or not, however its rules and sites were come by.
+-- 01, Sites, 16: what demand 3 says of the rewriter, of a whole list of sites, kept or not, however its rules and sites were come by.
 use Prim.Native.Nat.{ℕ, _+_, _≤_, _<_}
 use mathlib.Core.Path.{_≡_}
 use mathlib.Core.Bool.{true}

@@ -7,10 +7,12 @@ use mathlib.Core.List.{List, [], _∷_}
 use mathlib.Core.Option.{some}
 use lib.ListN.{length}
 use Rattle.lines.specs.Refusal.{refused, gives}
+use Rattle.lines.specs.Calls.{over}
 use Rattle.circuit.specs.Circuit.{Circuit, maxGates}
 use Rattle.circuit.specs.Table.{encode}
 use Rattle.circuit.specs.WellFormed.{WellFormed}
 use Rattle.circuit.specs.Evaluation.{evaluate}
+use Rattle.circuit.specs.EvaluateCall.{evaluating}
 use Rattle.circuit.specs.Path.{isGate}
 use Rattle.circuit.specs.declared.checked.DepthPair.{DepthPair}
 use Rattle.rules.specs.Rule.{Rule}
@@ -22,7 +24,7 @@ use Rattle.rules.specs.WellFormed.{ValidRule, WellFormedRules, WellFormedSites}
 use Rattle.rewriting.specs.Replacement.{replace}
 use Rattle.rewriting.specs.Pair.{pairOf, isLower, weight}
 use Rattle.rewriting.specs.Verdict.{siteMatch, isTooLarge, replaced, rewritten, verdictOf}
-use Rattle.rewriting.specs.Run.{State, keeping, step}
+use Rattle.rewriting.specs.Run.{State, keeping, step, finalState, allVerdicts}
 use Rattle.rewriting.specs.SafeRun.{SafeRun}
 use Rattle.rewriting.specs.RewriteCall.{doneValues, rewriting}
 
@@ -103,6 +105,20 @@ abbrev pub SuccessIsSafe : Type 0
 SuccessIsSafe =
     (circuit rules sites result work verdicts values : List ℕ) → rewriting circuit rules sites result work verdicts .answer ≡ gives values
     → WellFormed circuit × WellFormedRules rules × WellFormedSites sites × (values ≡ doneValues circuit rules sites) × SafeRun circuit rules sites
+
+-- The table of the circuit handed back is then in `result`, and a verdict a site in `verdicts`, each with the old contents beyond.
+abbrev pub SuccessLeavesTable : Type 0
+SuccessLeavesTable =
+    (circuit rules sites result work verdicts values : List ℕ) → rewriting circuit rules sites result work verdicts .answer ≡ gives values
+    → (rewriting circuit rules sites result work verdicts .result ≡ over (encode (finalState circuit rules sites .circuit)) result)
+    × (rewriting circuit rules sites result work verdicts .verdicts ≡ over (allVerdicts circuit rules sites) verdicts)
+
+-- The plain evaluator answers for that table as for the circuit first read, whatever bytes it is given.
+abbrev pub SuccessKeepsEvaluation : Type 0
+SuccessKeepsEvaluation =
+    (circuit rules sites result work verdicts values : List ℕ) → rewriting circuit rules sites result work verdicts .answer ≡ gives values
+    → (inputBytes outputBytes : List ℕ)
+    → evaluating (encode (finalState circuit rules sites .circuit)) inputBytes outputBytes ≡ evaluating circuit inputBytes outputBytes
 
 -- In the numbers of the result, kept and the new pair are within the old pair.
 abbrev pub SuccessIsBounded : Type 0
