@@ -1,5 +1,5 @@
 // Tries cases. Each is three files that arguments name, a circuit, rules and sites, of which any may be missing. The first is tried as a
-// text of lines, read and written back, and as a circuit, measured and evaluated; the rules are judged; each site is matched; and
+// text of lines, read and written back, and as a circuit, measured, evaluated and translated; the rules are judged; each site is matched; and
 // the circuit is rewritten at all sites in order.
 use inspecting::print_evaluations;
 use inspecting::print_pair;
@@ -11,6 +11,7 @@ use matching::print_matches;
 use printing::print_answer;
 use recoding::recode;
 use rewrites::print_rewriting;
+use translations::print_translations;
 
 mod inspecting;
 mod loading;
@@ -18,6 +19,7 @@ mod matching;
 mod printing;
 mod recoding;
 mod rewrites;
+mod translations;
 
 fn print_name(i: usize) {
     let mut name = io::buffer();
@@ -41,7 +43,7 @@ fn try_text(i: usize) {
     print_recoding(&text[..length]);
 }
 
-// Measures and evaluates a text that reads as a table, if only as one that is refused.
+// Measures, evaluates and translates a text that reads as a table, if only as one that is refused.
 fn try_circuit(i: usize) {
     let mut table = [0u32; 10347];
     let count = read_file(i, &mut table);
@@ -50,6 +52,8 @@ fn try_circuit(i: usize) {
         print_pair(&table[..count]);
         io::write_all(STDOUT_FILENO, b", evaluate");
         print_evaluations(&table[..count]);
+        io::write_all(STDOUT_FILENO, b", translate");
+        print_translations(&table[..count]);
     }
 }
 

@@ -24,6 +24,7 @@ use crate::checking::operands_ok;
 use crate::critical::count_critical;
 use crate::depth::append_depths;
 use crate::depth::clear;
+pub use crate::depth::larger;
 use crate::depth::output_depth;
 use crate::reverse_depth::mark_outputs;
 use crate::reverse_depth::raise_gates;

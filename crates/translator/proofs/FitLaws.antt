@@ -1,0 +1,141 @@
+-- What the loops of the allocator ask for at each gate and output: registers, room on the stack, and room in the program. Assumes nothing.
+use mathlib.Core.Path.{_≡_, refl, sym, ap, _∙_, fun-ext}
+use mathlib.Core.Bool.{Bool, true, false, true≢false, _||_}
+use mathlib.Core.List.{List, [], _∷_, _++_, map-append}
+use Prim.Native.Nat.{ℕ, suc, _+_, _≤_, _<_}
+use native.Mathlib.Numerals.{add-one}
+use native.Mathlib.Omega.{arith}
+use lib.Dec.{eqb, ltb}
+use lib.ListN.{length, take, getD, length-append}
+use lib.Seq.{take-suc}
+use Rattle.circuit.specs.Circuit.{Gate, Circuit, firstGate, references, noGate}
+use Rattle.circuit.specs.Path.{isAmong}
+use Rattle.circuit.proofs.ValidLaws.{Limited}
+use Rattle.translator.specs.LiveRange.{isUsedFrom, isReady}
+use Rattle.translator.specs.Need.{need}
+use Rattle.translator.specs.LastUse.{lastUse}
+use Rattle.translator.specs.Machine.{emitting, maxRegisters}
+use Rattle.translator.specs.Allocation.{Allocation, registerOf, assign}
+use Rattle.translator.specs.Allocator.{ensureLoaded, gateTurn, allocationAfter, allocationBefore, outputsLoaded}
+use Rattle.translator.specs.Program.{emits, program, maxInstructions}
+use Rattle.translator.specs.Registers.{instructionAt, Loadable, Operable, Turnable}
+use Rattle.translator.proofs.TrimmedLaws.{Trimmed}
+use Rattle.translator.proofs.ReadyLaws.{result-new, left-low, right-low, left-wanted, right-wanted, left-ready, right-ready}
+use Rattle.translator.proofs.OwnerLaws.{Free, next-inside}
+use Rattle.translator.proofs.AllocationLaws.{Allocated, read-there, release-room}
+use Rattle.translator.proofs.AllocatorLaws.{release-size, left-ensured, operands-wanted, left-released, both-released, result-assigned, after-allocated, before-allocated, outputs-allocated}
+use Rattle.translator.proofs.SizeLaws.{ensure-grows, before-fits, after-fits, outputs-fit}
+use Rattle.translator.proofs.ShapeLaws.{program-limit}
+use Rattle.translator.proofs.MomentLaws.{front-length, front-outputs, front-gates, operation, after-code}
+use Rattle.translator.proofs.LastUseLaws.{used-from}
+
+-- ---- one gate, one output more
+
+module _ (c : Circuit) where
+  pub allocation-more : (i : ℕ) (g : Gate) → getD (c .gates) i noGate ≡ g → allocationAfter c (i + 1) ≡ gateTurn c i g (allocationAfter c i)
+  unfolding allocationAfter
+  allocation-more i g e = rw (add-one i, e)
+
+  pub outputs-more : (j o : ℕ) → getD (c .outputs) j 0 ≡ o → outputsLoaded c (j + 1) ≡ ensureLoaded o (outputsLoaded c j)
+  unfolding outputsLoaded
+  outputs-more j o e = rw (add-one j, e)
+
+  -- what is used after gate i, by the table of last uses
+  pub wanted-read : (last : List ℕ) → ((v : ℕ) → getD last v 0 ≡ lastUse c v) → (i : ℕ) → i < length (c .gates)
+      → (λ v. ltb (i + 1) (getD last v 0)) ≡ isUsedFrom c (suc i)
+  wanted-read last u i h =
+      fun-ext (λ v. ap (ltb (i + 1)) (u v) ∙ ap (λ j. ltb j (lastUse c v)) (add-one i) ∙ sym (used-from c (suc i) v h))
+
+pub emits-more : (ws os : List ℕ) (j : ℕ) → j < length os → emits ws (take (j + 1) os) ≡ emits ws (take j os) ++ (emitting (registerOf ws (getD os j 0)) ∷ [])
+emits-more ws os j h =
+    rw (add-one j) (ap (emits ws) (take-suc os j 0 h) ∙ map-append (λ o. emitting (registerOf ws o)) (take j os) (getD os j 0 ∷ []))
+
+-- ---- registers
+
+loadable : (v : ℕ) (s : Allocation) → Free (s .owners) (s .freed) → length (ensureLoaded v s .owners) ≤ maxRegisters → Loadable v s
+unfolding ensureLoaded assign
+loadable v s f l e = omega (arith, next-inside v (s .owners) (s .freed) f, rw e at l)
+
+-- what is not ready is in no register
+absent : {n : ℕ} {p w : ℕ → Bool} {s : Allocation} (x : ℕ) → p x ≡ false → Allocated n p w s → isAmong (suc x) (s .owners) ≡ false
+absent {p = p} {s = s} x r a = go (isAmong (suc x) (s .owners)) refl
+  where
+    go : (b : Bool) → isAmong (suc x) (s .owners) ≡ b → b ≡ false
+    go true e = absurd (true≢false (sym (a .owned x e) ∙ r))
+    go false e = refl
+
+module _ (c : Circuit) (k : Trimmed c) (enough : need c ≤ maxRegisters) where
+  module _ (i : ℕ) (h : i < length (c .gates)) where
+    abbrev g : Gate
+    g = getD (c .gates) i noGate
+
+    a : Allocated (references c) (isReady c i i) (isUsedFrom c i) (allocationAfter c i)
+    a = after-allocated c k i (omega arith)
+
+    left-loadable : Loadable (g .left) (allocationAfter c i)
+    left-loadable =
+        loadable (g .left) (allocationAfter c i) (a .free) (omega (arith, ensure-grows (g .right) (ensureLoaded (g .left) (allocationAfter c i)), before-fits c k i h))
+
+    right-loadable : Loadable (g .right) (ensureLoaded (g .left) (allocationAfter c i))
+    right-loadable =
+        loadable (g .right) (ensureLoaded (g .left) (allocationAfter c i)) (left-ensured c k i h (allocationAfter c i) a .allocated .free) (omega (arith, before-fits c k i h))
+
+    operable : Operable (isUsedFrom c (suc i)) (firstGate (c .inputs) + i) g (allocationBefore c i)
+    unfolding gateTurn allocationAfter assign
+    operable =
+        let b = before-allocated c k i h in
+        let w = isUsedFrom c (suc i) in
+        let s = allocationBefore c i in
+        let fits : length (s .owners) ≤ maxRegisters = omega (arith, before-fits c k i h) in
+        record {
+          left-there = b .kept (g .left) (left-ready c k i h) (left-wanted c k i h);
+          right-there = b .kept (g .right) (right-ready c k i h) (right-wanted c k i h);
+          left-room = λ e. omega (
+            arith,
+            fits,
+            release-room (references c) (isReady c (suc i) i) (λ x. eqb x (g .right) || w x) (g .left) s (omega (arith, left-low c k i h)) (left-ready c k i h)
+                (operands-wanted c k i h (allocationAfter c i) a) e,
+          );
+          right-still = read-there (references c) (isReady c (suc i) i) w (g .right) _ (omega (arith, right-low c k i h)) (right-ready c k i h)
+              (left-released c k i h (allocationAfter c i) a);
+          right-room = λ e. omega (
+            arith,
+            fits,
+            release-size (eqb (g .left) (g .right) || w (g .left)) (g .left) s,
+            release-room (references c) (isReady c (suc i) i) w (g .right) _ (omega (arith, right-low c k i h)) (right-ready c k i h)
+                (left-released c k i h (allocationAfter c i) a) e,
+          );
+          result-new = absent (firstGate (c .inputs) + i) (result-new c k i h) (both-released c k i h (allocationAfter c i) a);
+          result-next = omega (arith, result-assigned c k i h (allocationAfter c i) a (λ d. emitting d) .inside, after-fits c k (suc i) h);
+        }
+
+    fits : Limited c → length (allocationBefore c i .code) + 1 ≤ maxInstructions
+    fits l =
+        omega (
+          arith,
+          ap length (after-code c i) ∙ length-append (allocationBefore c i .code) (operation c i g (allocationBefore c i) ∷ []),
+          front-length (allocationAfter c (suc i) .code) (program c) (front-gates c k (suc i) h),
+          program-limit c k l,
+        )
+
+    -- all that gate i asks for, by the table of last uses
+    pub turnable : Limited c → (last : List ℕ) → ((v : ℕ) → getD last v 0 ≡ lastUse c v) → (size : ℕ) → instructionAt maxInstructions ≤ size
+        → Turnable (λ v. ltb (i + 1) (getD last v 0)) (firstGate (c .inputs) + i) g (allocationAfter c i) size
+    turnable l last u size room =
+        record {
+          left-next = left-loadable;
+          right-next = right-loadable;
+          operable = rw (wanted-read c last u i h) operable;
+          fits = omega (arith, fits l, room);
+        }
+
+  pub output-loadable : (j : ℕ) → j < length (c .outputs) → Loadable (getD (c .outputs) j 0) (outputsLoaded c j)
+  unfolding outputsLoaded
+  output-loadable j h =
+      loadable (getD (c .outputs) j 0) (outputsLoaded c j) (outputs-allocated c k j (omega arith) .free) (omega (arith, outputs-fit c k (suc j) h))
+
+-- ---- instructions
+
+module _ (c : Circuit) (k : Trimmed c) (l : Limited c) where
+  pub output-writable : (j : ℕ) → j ≤ length (c .outputs) → length (outputsLoaded c j .code) ≤ maxInstructions
+  output-writable j h = omega (arith, front-length (outputsLoaded c j .code) (program c) (front-outputs c k j h), program-limit c k l)

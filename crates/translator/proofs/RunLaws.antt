@@ -1,0 +1,145 @@
+-- The machine runs what an allocation has written so far, over any values. Assumes nothing.
+use mathlib.Core.Path.{_≡_, refl, sym, ap, _∙_}
+use mathlib.Core.Logic.{_⊎_, inl, inr}
+use mathlib.Core.Bool.{Bool, true, false, _||_}
+use mathlib.Core.List.{List, [], _∷_, _++_, map, append-nil}
+use mathlib.Core.Option.{Option, none, some, bind}
+use Prim.Native.Nat.{ℕ, zero, suc, _≤_, _<_}
+use native.Mathlib.Nat.{not-suc-le-zero, le-of-suc-le-suc, suc-inj, suc-ne-zero}
+use native.Mathlib.Decide.{ℕ-discrete}
+use native.Mathlib.Omega.{arith}
+use lib.Dec.{eqb}
+use lib.ListN.{length, getD, set, replicate, getElem?, length-set, length-replicate}
+use lib.Seq.{getD-set-same, getD-set-other, append-snoc}
+use borrow.Author.Tests.{lt-ltb}
+use Rattle.circuit.specs.Circuit.{Gate, xorKind, andKind}
+use Rattle.circuit.specs.Path.{isAmong}
+use Rattle.circuit.proofs.RefusalLaws.{either}
+use Rattle.circuit.proofs.ValidLaws.{among-head, among-tail}
+use Rattle.translator.specs.Machine.{Instruction, loading, operating, emitting, Machine, emptyMachine, readFrom, step, runFrom}
+use Rattle.translator.specs.Allocation.{Allocation, noRegisters, registerOf, nextRegister, ownersWith, assign, release, releaseOperands, loaded, operated}
+use Rattle.translator.specs.Program.{emits}
+use Rattle.translator.proofs.OwnerLaws.{register-at, freed-owner, Free, owners-next, owners-other, next-inside}
+
+pub element-there : {A : Type 0} (l : List A) (z : A) (i : ℕ) → i < length l → getElem? l i ≡ some (getD l i z)
+element-there [] z i h = absurd (not-suc-le-zero h)
+element-there (x ∷ l) z zero h = refl
+element-there (x ∷ l) z (suc i) h = element-there l z i (le-of-suc-le-suc h)
+
+module _ {A : Type 0} (start : List A) (op : ℕ → A → A → A) where
+  pub run-append : (is js : List Instruction) (m : Machine A) → runFrom start op (is ++ js) m ≡ bind (runFrom start op is m) (runFrom start op js)
+  unfolding runFrom bind
+  run-append [] js m = refl
+  run-append (i ∷ is) js m = go (step start op i m) (run-append is js)
+    where
+      go : (r : Option (Machine A)) → ((m : Machine A) → runFrom start op (is ++ js) m ≡ bind (runFrom start op is m) (runFrom start op js))
+          → bind r (runFrom start op (is ++ js)) ≡ bind (bind r (runFrom start op is)) (runFrom start op js)
+      go none ih = refl
+      go (some m′) ih = ih m′
+
+  -- ---- what each instruction does where it is no fault
+
+  module _ (m : Machine A) (d : ℕ) (h : d < length (m .registers)) where
+    pub load-step : (v : ℕ) (x : A) → getElem? start v ≡ some x
+        → step start op (loading d v) m ≡ some (record { registers = set (m .registers) d (some x); emitted = m .emitted })
+    unfolding step bind
+    load-step v x e = rw (e, lt-ltb d (length (m .registers)) h)
+
+    pub operate-step : (kind a b : ℕ) (x y : A) → eqb kind xorKind || eqb kind andKind ≡ true → readFrom m a ≡ some x → readFrom m b ≡ some y
+        → step start op (operating kind d a b) m ≡ some (record { registers = set (m .registers) d (some (op kind x y)); emitted = m .emitted })
+    unfolding step bind
+    operate-step kind a b x y k e f = go (either kind k)
+      where
+        go : (kind ≡ xorKind) ⊎ (kind ≡ andKind)
+            → step start op (operating kind d a b) m ≡ some (record { registers = set (m .registers) d (some (op kind x y)); emitted = m .emitted })
+        go (inl q) = rw (q, e, f, lt-ltb d (length (m .registers)) h)
+        go (inr q) = rw (q, e, f, lt-ltb d (length (m .registers)) h)
+
+  pub emit-step : (m : Machine A) (a : ℕ) (x : A) → readFrom m a ≡ some x
+      → step start op (emitting a) m ≡ some (record { registers = m .registers; emitted = m .emitted ++ (x ∷ []) })
+  unfolding step bind
+  emit-step m a x e = rw e
+
+-- ---- an allocation's code, run
+
+-- `registers` is what the machine holds behind it, where `value` says each reference's value
+pub record Runs {A : Type 0} (start : List A) (op : ℕ → A → A → A) (limit : ℕ) (value : ℕ → A) (s : Allocation) (registers : List (Option A)) : Type 0 where
+  pub runs : runFrom start op (s .code) (emptyMachine limit) ≡ some (record { registers = registers; emitted = [] })
+  pub wide : length registers ≡ limit
+  pub holds : (d v : ℕ) → getD (s .owners) d 0 ≡ suc v → getD registers d none ≡ some (value v)
+
+module _ {A : Type 0} (start : List A) (op : ℕ → A → A → A) (limit : ℕ) (value : ℕ → A) where
+  abbrev Running : Allocation → List (Option A) → Type 0
+  Running = Runs start op limit value
+
+  pub runs-none : Running noRegisters (replicate limit none)
+  unfolding runFrom
+  runs-none = record { runs = refl; wide = length-replicate limit none; holds = λ d v e. absurd (suc-ne-zero v (sym e)) }
+
+  module _ (s : Allocation) (r : List (Option A)) (run : Running s r) where
+    -- a value that is in a register can be read there
+    pub runs-read : (v : ℕ) → isAmong (suc v) (s .owners) ≡ true → getD r (registerOf (s .owners) v) none ≡ some (value v)
+    runs-read v e = run .holds (registerOf (s .owners) v) v (register-at (s .owners) v e .0)
+
+    pub runs-release : (keep : Bool) (v : ℕ) → Running (release keep v s) r
+    unfolding release
+    runs-release true v = run
+    runs-release false v = record { runs = run .runs; wide = run .wide; holds = λ d u e. run .holds d u (freed-owner (s .owners) _ d u e) }
+
+    module _ (v : ℕ) (make : ℕ → Instruction) (f : Free (s .owners) (s .freed)) (fits : length (assign v make s .owners) ≤ limit) where
+      abbrev d : ℕ
+      d = nextRegister (s .owners) (s .freed)
+
+      pub next-fits : d < length r
+      unfolding assign
+      next-fits = omega (arith, next-inside v (s .owners) (s .freed) f, run .wide)
+
+      pub runs-assign : step start op (make d) (record { registers = r; emitted = [] }) ≡ some (record { registers = set r d (some (value v)); emitted = [] })
+          → Running (assign v make s) (set r d (some (value v)))
+      unfolding assign runFrom bind
+      runs-assign e =
+          record {
+            runs = run-append start op (s .code) (make d ∷ []) (emptyMachine limit) ∙ rw (run .runs, e);
+            wide = rw length-set (run .wide);
+            holds = λ j u q. elim (ℕ-discrete j d) [
+              | yes p ↦
+                  let i : v ≡ u = suc-inj (sym (owners-next v (s .owners) (s .freed) f) ∙ ap (λ x. getD (ownersWith v (s .owners) (s .freed)) x 0) (sym p) ∙ q) in
+                  rw (p, getD-set-same r d (some (value v)) none next-fits, i)
+              | no p ↦
+                  getD-set-other r d j (some (value v)) none p ∙ run .holds j u (sym (owners-other v (s .owners) (s .freed) j p) ∙ q)
+            ];
+          }
+
+  module _ (s : Allocation) (r : List (Option A)) (run : Running s r) where
+    pub runs-load : (v : ℕ) → Free (s .owners) (s .freed) → length (loaded v s .owners) ≤ limit → getElem? start v ≡ some (value v)
+        → Running (loaded v s) (set r (nextRegister (s .owners) (s .freed)) (some (value v)))
+    runs-load v f fits e = runs-assign s r run v _ f fits (load-step start op _ _ (next-fits s r run v _ f fits) v (value v) e)
+
+    runs-releases : (w : ℕ → Bool) (g : Gate) → Running (releaseOperands w g s) r
+    unfolding releaseOperands
+    runs-releases w g = runs-release _ r (runs-release s r run (eqb (g .left) (g .right) || w (g .left)) (g .left)) (w (g .right)) (g .right)
+
+    pub runs-operate : (w : ℕ → Bool) (v : ℕ) (g : Gate) → (let u = releaseOperands w g s in Free (u .owners) (u .freed)) → length (operated w v g s .owners) ≤ limit
+        → eqb (g .kind) xorKind || eqb (g .kind) andKind ≡ true
+        → isAmong (suc (g .left)) (s .owners) ≡ true → isAmong (suc (g .right)) (s .owners) ≡ true
+        → value v ≡ op (g .kind) (value (g .left)) (value (g .right))
+        → let u = releaseOperands w g s in Running (operated w v g s) (set r (nextRegister (u .owners) (u .freed)) (some (value v)))
+    runs-operate w v g f fits k l q e =
+        let u = releaseOperands w g s in
+        let after = runs-releases w g in
+        runs-assign u r after v _ f fits
+        (operate-step start op (record { registers = r; emitted = [] }) _ (next-fits u r after v _ f fits) (g .kind) (registerOf (s .owners) (g .left))
+        (registerOf (s .owners) (g .right)) (value (g .left)) (value (g .right)) k (runs-read s r run (g .left) l) (runs-read s r run (g .right) q)
+        ∙ ap (λ x. some (record { registers = set r (nextRegister (u .owners) (u .freed)) (some x); emitted = [] })) (sym e))
+
+  -- ---- the emits
+
+  pub runs-emits : (ws : List ℕ) (r : List (Option A)) (es : List A) (os : List ℕ)
+      → ((o : ℕ) → isAmong o os ≡ true → getD r (registerOf ws o) none ≡ some (value o))
+      → runFrom start op (emits ws os) (record { registers = r; emitted = es }) ≡ some (record { registers = r; emitted = es ++ map value os })
+  unfolding runFrom bind
+  runs-emits ws r es [] h = ap (λ l. some (record { registers = r; emitted = l })) (sym (append-nil es))
+  runs-emits ws r es (o ∷ os) h =
+      rw (emit-step start op (record { registers = r; emitted = es }) (registerOf ws o) (value o) (h o (among-head o os)))
+      (runs-emits ws r (es ++ (value o ∷ [])) os (λ x e. h x (among-tail x o os e))
+      ∙ ap (λ l. some (record { registers = r; emitted = l })) (append-snoc es (value o) (map value os)))

@@ -1,0 +1,164 @@
+-- The theorems about the register program. Assumes nothing.
+use mathlib.Core.Path.{_≡_, sym, ap, ap₂, _∙_}
+use mathlib.Core.List.{_++_, append-assoc}
+use mathlib.Core.Option.{Option, none, some, bind-eq-some-iff}
+use Prim.Native.Nat.{ℕ, suc}
+use native.Mathlib.Omega.{arith}
+use lib.ListN.{length, drop, getD, replicate, length-replicate}
+use lib.Seq.{drop-cons, drop-length, take-length}
+use Rattle.circuit.specs.Circuit.{firstGate, references, noGate}
+use Rattle.circuit.specs.Table.{inputs, decode}
+use Rattle.circuit.specs.Depth.{largest, circuitDepth}
+use Rattle.circuit.specs.Path.{isAmong, isOutput}
+use Rattle.circuit.specs.Trim.{trim}
+use Rattle.circuit.proofs.RankLaws.{rank-lt}
+use Rattle.circuit.proofs.RefusalLaws.{accepted-is-well-formed}
+use Rattle.circuit.proofs.ValidLaws.{valid-decode, limited-decode}
+use Rattle.circuit.proofs.TrimLaws.{trim-limited, trim-outputs}
+use Rattle.translator.specs.Machine.{emptyMachine, runFrom, run}
+use Rattle.translator.specs.LeveledBit.{LeveledBit, leveledOp, atLevelZero, startLeveled, runOn}
+use Rattle.translator.specs.Need.{need}
+use Rattle.translator.specs.Steps.{operandLoads, stepsFrom}
+use Rattle.translator.specs.Program.{program, encodeProgram, instructionsOf}
+use Rattle.translator.specs.Theorems.{RunWithinLimit, InstructionsAfterEncode, LastUseDecides, PressureIsNeed, AllocatorIsProgram, ProgramComputes, ProgramEmitsOutputs, NeedIsSome, RegistersWithinNeed, ProgramFollowsSteps, ProgramCount, StepsOperateInOrder, StepsLoadOnce, StepsLoadAtFirstUse, StepsLoadForOutputs, ValuesAreHeld, TranslationRuns}
+use Rattle.translator.proofs.TrimmedLaws.{trimmed-of}
+use Rattle.translator.proofs.PressureLaws.{linear-need, outputs-need}
+use Rattle.translator.proofs.OwnerLaws.{among-element}
+use Rattle.translator.proofs.ComputeLaws.{end-computes}
+use Rattle.translator.proofs.StepLaws.{end-is-program}
+use Rattle.translator.proofs.LoadLaws.{operations-steps, steps-split, output-operations, operand-occurrences, output-occurrences, steps-occurrences}
+use Rattle.translator.proofs.ShapeLaws.{program-shape, program-length, program-limit, instructions-encode}
+use Rattle.translator.proofs.RegisterLaws.{run-within}
+use Rattle.translator.proofs.LeveledLaws.{leveled-length, leveledOutputs, emitted-bits, emitted-levels}
+use Rattle.translator.proofs.MomentLaws.{after-code}
+use Rattle.translator.proofs.HoldingLaws.{holding-before, holding-after, holding-end}
+use Rattle.translator.proofs.LastUseLaws.{used-from}
+use Rattle.translator.proofs.CallLaws.{translation-is}
+
+-- ---- the machine
+
+pub run-within-limit : RunWithinLimit
+unfolding run
+run-within-limit A start op limit is es e d h =
+    let (m, p, q) = bind-eq-some-iff (runFrom start op is (emptyMachine limit)) (λ m. some (m .emitted)) .0 e in
+    rw (length-replicate {A = Option A} limit none) at (run-within start op is (emptyMachine limit) m p d h)
+
+pub instructions-after-encode : InstructionsAfterEncode
+instructions-after-encode = instructions-encode
+
+-- ---- what the loops compute
+
+pub last-use-decides : LastUseDecides
+last-use-decides = used-from
+
+pub pressure-is-need : PressureIsNeed
+pressure-is-need t w = linear-need (trim (decode t)) (trimmed-of t w)
+
+pub allocator-is-program : AllocatorIsProgram
+allocator-is-program t w = end-is-program (trim (decode t)) (trimmed-of t w)
+
+-- ---- the run
+
+pub program-computes : ProgramComputes
+unfolding trim
+program-computes A op z start t w l limit h =
+    let c = trim (decode t) in
+    let k = trimmed-of t w in
+    ap (run start op limit) (sym (end-is-program c k)) ∙ end-computes op z start c k l limit h
+    ∙ ap some (trim-outputs (decode t) (valid-decode t w) op z start l)
+
+pub program-emits-outputs : ProgramEmitsOutputs
+unfolding circuitDepth
+program-emits-outputs t w bytes l limit h =
+    let s = leveled-length bytes ∙ ap firstGate l in
+    let levels = emitted-levels (decode t) bytes l in (
+      leveledOutputs (decode t) bytes,
+      program-computes LeveledBit leveledOp (atLevelZero 0) (startLeveled bytes) t w s limit h,
+      emitted-bits (decode t) bytes,
+      levels,
+      ap largest levels,
+    )
+
+pub need-is-some : NeedIsSome
+need-is-some t w =
+    let c = trim (decode t) in
+    let k = trimmed-of t w in
+    let o = getD (c .outputs) 0 0 in
+    let among = among-element (c .outputs) 0 (trim-limited (decode t) (valid-decode t w) (limited-decode t (w .sized)) .outputs-some) in
+    omega (arith, rank-lt (isOutput c) o (references c) among (k .valid .outputs-below o among), outputs-need c k)
+
+pub registers-within-need : RegistersWithinNeed
+registers-within-need t w d h =
+    let c = trim (decode t) in
+    let bytes = replicate {A = ℕ} (inputs t) 0 in
+    let (es, e, bits, levels, top) = program-emits-outputs t w bytes (length-replicate {A = ℕ} (inputs t) 0) (need c) (omega arith) in
+    run-within-limit LeveledBit (startLeveled bytes) leveledOp (need c) (program c) es e d h
+
+-- ---- the steps
+
+pub program-follows-steps : ProgramFollowsSteps
+program-follows-steps t w = program-shape (trim (decode t)) (trimmed-of t w)
+
+pub program-count : ProgramCount
+unfolding trim
+program-count t w =
+    let c = trim (decode t) in
+    let k = trimmed-of t w in
+    (program-length c k, program-limit c k (trim-limited (decode t) (valid-decode t w) (limited-decode t (w .sized))))
+
+pub steps-operate-in-order : StepsOperateInOrder
+steps-operate-in-order = operations-steps
+
+pub steps-load-once : StepsLoadOnce
+steps-load-once = steps-occurrences
+
+pub steps-load-at-first-use : StepsLoadAtFirstUse
+unfolding stepsFrom
+steps-load-at-first-use c i h =
+    let g = getD (c .gates) i noGate in
+    let (before, e, q) = steps-split c i (omega arith) in (
+      before,
+      stepsFrom c (suc i) (drop (suc i) (c .gates)),
+      e ∙ ap (λ gs. before ++ stepsFrom c i gs) (drop-cons (c .gates) i noGate h) ∙ sym (append-assoc before (operandLoads c i g) _),
+      q,
+      λ v. operand-occurrences c v i g,
+    )
+
+pub steps-load-for-outputs : StepsLoadForOutputs
+unfolding stepsFrom isAmong
+steps-load-for-outputs c =
+    let n = length (c .gates) in
+    let (before, e, q) = steps-split c n (omega arith) in (
+      before,
+      e ∙ ap (λ gs. before ++ stepsFrom c n gs) (drop-length (c .gates)),
+      q ∙ take-length (c .gates),
+      output-operations c 0 (c .outputs),
+      λ v. output-occurrences c v (length (c .outputs)) 0 (omega arith),
+    )
+
+-- ---- moments
+
+pub values-are-held : ValuesAreHeld
+unfolding trim
+values-are-held A op z start t w l limit enough =
+    let c = trim (decode t) in
+    let k = trimmed-of t w in (
+      λ i h. (holding-before op z start c k l limit enough i h, holding-after op z start c k l limit enough i h, (_, after-code c i)),
+      holding-end op z start c k l limit enough,
+    )
+
+-- ---- the call
+
+pub translation-runs : TranslationRuns
+translation-runs t limit buffer after count n e =
+    let x = translation-is t limit buffer after count n e in
+    let w = accepted-is-well-formed t .0 (x .accepted) in
+    let c = trim (decode t) in
+    let p = program c in
+    let read : instructionsOf count after ≡ p
+    = ap₂ instructionsOf (x .counted) (x .written) ∙ instructions-after-encode p (drop (length (encodeProgram p)) buffer) in (
+      x .needed,
+      λ bytes l.
+          let (es, r, bits, levels, top) = program-emits-outputs t w bytes l limit (x .enough) in
+          (es, ap (runOn bytes limit) read ∙ r, bits, top),
+    )

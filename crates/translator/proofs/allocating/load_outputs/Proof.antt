@@ -1,0 +1,100 @@
+use Prim.Native.Nat.{_-_, _≤_}
+use mathlib.Core.Path.{_≡_, refl, sym, ap, _∙_}
+use native.Mathlib.Omega.{arith}
+use Rattle.circuit.specs.Table.{outputs, decode}
+use Rattle.circuit.proofs.TableLaws.{outputs-length}
+use Rattle.translator.specs.Allocator.{outputsLoaded}
+use Rattle.translator.specs.Registers.{Represents}
+use Rattle.translator.proofs.LineLaws.{output-read}
+use Rattle.translator.proofs.WritingLaws.{represents-same}
+use Rattle.translator.proofs.AllocatingLaws.{output-ready, output-fits, output-done}
+use borrow.Author.Needs.{needs}
+use Rattle.translator.proofs.allocating.load_outputs.Statement.{statement}
+use Rattle.translator.proofs.allocating.load_outputs.Tie as tie
+
+abbrev Inv-loop : tie.InvT-loop
+Inv-loop t owner₀ freed place₀ buffer₀ count counts₀ j₀ owner place buffer counts j =
+    (j ≤ outputs t) × Represents owner freed place buffer (counts .free) (counts .fresh) (counts .written) buffer₀ (outputsLoaded (decode t) j)
+
+abbrev μ-loop : tie.MeasureT-loop
+μ-loop t owner₀ freed place₀ buffer₀ count counts₀ j₀ owner place buffer counts j = outputs t - j
+
+shared-slice-read-outputs : tie.Need-shared-slice-read-outputs Inv-loop μ-loop
+shared-slice-read-outputs c = search needs
+
+cast-outputs : tie.Need-cast-outputs Inv-loop μ-loop
+cast-outputs c = search needs
+
+loop-holds : tie.Need-loop-holds Inv-loop μ-loop
+loop-holds c =
+    let s = c .before .before .before in
+    (omega arith, record { arrays = s .pre .1 .1 .1 .0; allocation = s .pre .1 .1 .1 .1 .0; kept = record { beyond = refl; long = refl } })
+
+output-reference-requires : tie.Need-output-reference-requires Inv-loop μ-loop
+output-reference-requires c κs = search needs
+
+ensure-loaded-requires : tie.Need-ensure-loaded-requires Inv-loop μ-loop
+ensure-loaded-requires c κs =
+    let s = c .before .before .before .before .before .before .before .before .before in
+    let t = s .args .t .now in
+    let l = c .before .before .before .before .before .loop in
+    let o = c .before .before .before .output-reference in
+    let h = c .before .before .before .before .loop-test .taken in
+    let e = output-read t (l .j) h (o .result) (o .ensures .0) in
+    let b = l .inv .1 in (
+      b .arrays,
+      (
+        omega (arith, o .ensures .1, s .pre .0 .sized),
+        (
+          output-ready t (s .pre .0) (s .pre .1 .0) (l .j) h (o .result) e (s .pre .1 .1 .0) _ (b .allocation),
+          omega (arith, output-fits t (s .pre .0) (s .pre .1 .0) (l .j) h (o .result) e _ (b .allocation), s .pre .1 .1 .1 .1 .1, b .kept .long),
+        ),
+      ),
+    )
+
+add-j : tie.Need-add-j Inv-loop μ-loop
+add-j c = search needs
+
+loop-less : tie.Need-loop-less Inv-loop μ-loop
+loop-less c = search needs
+
+loop-again : tie.Need-loop-again Inv-loop μ-loop
+loop-again c =
+    let s = c .before .before .before .before .before .before .before .before .before .before .before .before in
+    let a = s .args in
+    let l = c .before .before .before .before .before .before .before .before .loop in
+    let o = c .before .before .before .before .before .before .output-reference in
+    let h = c .before .before .before .before .before .before .before .loop-test .taken in
+    let r = c .before .before .ensure-loaded in (
+      omega arith,
+      output-done (a .t .now) (s .pre .0) (s .pre .1 .0) (l .j) h (o .result) (output-read (a .t .now) (l .j) h (o .result) (o .ensures .0))
+          (l .owner) (a .freed .now) (l .place) (l .buffer) (l .counts .free) (l .counts .fresh) (l .counts .written) (a .buffer .now)
+          (r .last .0) (r .last .1 .1 .0) (r .last .1 .1 .1 .0) (r .result .free) (r .result .fresh) (r .result .written) (l .inv .1) (r .ensures),
+    )
+
+same-length : tie.Need-same-length Inv-loop μ-loop
+same-length c = c .before .loop .inv .1 .kept .long
+
+returns : tie.Need-returns Inv-loop μ-loop
+returns c =
+    let t = c .before .before .before .before .before .args .t .now in
+    let l = c .before .loop in
+    let e : l .j ≡ outputs t = omega (arith, l .inv .0, c .loop-test .left) in
+    represents-same (ap (outputsLoaded (decode t)) (e ∙ sym (outputs-length t))) (l .inv .1)
+
+pub load-outputs-spec : {M : Type 1} → statement M
+load-outputs-spec =
+    tie.close
+    (tie.spec
+    Inv-loop
+    μ-loop
+    shared-slice-read-outputs
+    cast-outputs
+    loop-holds
+    output-reference-requires
+    ensure-loaded-requires
+    add-j
+    loop-less
+    loop-again
+    same-length
+    returns)

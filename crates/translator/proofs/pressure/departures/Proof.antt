@@ -1,0 +1,65 @@
+use mathlib.Core.Path.{sym, ap, _∙_}
+use native.Mathlib.Omega.{arith}
+use borrow.Author.Needs.{needs}
+use Rattle.circuit.specs.Table.{decode}
+use Rattle.circuit.proofs.TableLaws.{gates-length}
+use Rattle.translator.specs.Pressure.{departures}
+use Rattle.translator.proofs.LineLaws.{gate-read}
+use Rattle.translator.proofs.CountingLaws.{departures-read}
+use Rattle.translator.proofs.pressure.departures.Statement.{statement}
+use Rattle.translator.proofs.pressure.departures.Tie as tie
+
+gate-line-requires : tie.Need-gate-line-requires
+gate-line-requires c κs = search needs
+
+cast-number : tie.Need-cast-number
+cast-number c = search needs
+
+add-number : tie.Need-add-number
+add-number c = search needs
+
+cast-left : tie.Need-cast-left
+cast-left c = search needs
+
+mul-left : tie.Need-mul-left
+mul-left c = search needs
+
+element-copy-out-left : tie.Need-element-copy-out-left
+element-copy-out-left c = search needs
+
+cast-right : tie.Need-cast-right
+cast-right c = search needs
+
+mul-right : tie.Need-mul-right
+mul-right c = search needs
+
+element-copy-out-right : tie.Need-element-copy-out-right
+element-copy-out-right c = search needs
+
+count-true-requires : tie.Need-count-true-requires
+count-true-requires c κs = search needs
+
+returns : tie.Need-returns
+returns c =
+    let s = c .before .before .before .before .before .before .before .before in
+    let g = c .before .before .before .before .before .before .gate-line in
+    let t = s .args .t .now in
+    let i = s .args .i in
+    let read = gate-read t i (s .pre .1 .0) _ _ _ (g .ensures .0) (g .ensures .1 .0) (g .ensures .1 .1 .0) in
+    c .count-true .ensures ∙ departures-read (decode t) (s .args .last .now) (s .pre .1 .1) i (omega (arith, gates-length t)) _ ∙ ap (departures (decode t) i) (sym read)
+
+pub departures-spec : {M : Type 1} → statement M
+departures-spec =
+    tie.close
+    (tie.spec
+    gate-line-requires
+    cast-number
+    add-number
+    cast-left
+    mul-left
+    element-copy-out-left
+    cast-right
+    mul-right
+    element-copy-out-right
+    count-true-requires
+    returns)

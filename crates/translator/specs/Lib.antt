@@ -1,0 +1,16 @@
+pub mod Machine
+pub mod LeveledBit
+pub mod LiveRange
+pub mod Need
+pub mod Steps
+pub mod Allocation
+pub mod Program
+pub mod LastUse
+pub mod Pressure
+pub mod Allocator
+pub mod Registers
+pub mod Shape
+pub mod Moment
+pub mod TranslateCall
+pub mod SafeDelivery
+pub mod Theorems

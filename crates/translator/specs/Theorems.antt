@@ -1,0 +1,195 @@
+-- The theorems about the register program, as statements; each is proved under its name in proofs/. Circuits are those of well-formed
+-- tables, trimmed as the translator trims them first.
+use Prim.Native.Nat.{ℕ, suc, _+_, _*_, _≤_, _<_}
+use mathlib.Core.Path.{_≡_}
+use mathlib.Core.Bool.{true, _&&_}
+use mathlib.Core.List.{List, [], _∷_, _++_, map}
+use mathlib.Core.Option.{some}
+use lib.Dec.{ltb}
+use lib.ListN.{length, take, getD, replicate}
+use Rattle.lines.specs.Refusal.{refused, gives, noTable, leaving}
+use Rattle.circuit.specs.Circuit.{Circuit, firstGate, noGate}
+use Rattle.circuit.specs.Table.{inputs, decode, encode}
+use Rattle.circuit.specs.Refusal.{refusal}
+use Rattle.circuit.specs.WellFormed.{WellFormed}
+use Rattle.circuit.specs.Fold.{foldGates, atOutputs}
+use Rattle.circuit.specs.Evaluation.{evaluate}
+use Rattle.circuit.specs.Depth.{depth, largest, circuitDepth}
+use Rattle.circuit.specs.Path.{isAmong, isOperand, isOutput}
+use Rattle.circuit.specs.Trim.{rank, trim}
+use Rattle.rules.specs.RuleRefusal.{rulesRefusal}
+use Rattle.rules.specs.SiteTable.{siteCount, sitesRefusal}
+use Rattle.rewriting.specs.Run.{zeros, allVerdicts}
+use Rattle.rewriting.specs.RewriteCall.{rewriting}
+use Rattle.translator.specs.Machine.{Instruction, emitting, maxRegisters, run}
+use Rattle.translator.specs.LeveledBit.{LeveledBit, runOn}
+use Rattle.translator.specs.LiveRange.{isUsedFrom, isConstantOrInput, isHeldBefore, isHeldAfter, isHeldAtEnd}
+use Rattle.translator.specs.Need.{need}
+use Rattle.translator.specs.Steps.{Step, operate, isUnloaded, operandLoads, outputLoads, steps, loadsOf, operationsOf}
+use Rattle.translator.specs.Program.{program, withEmits, encodeProgram, instructionsOf, maxInstructions}
+use Rattle.translator.specs.LastUse.{lastUse}
+use Rattle.translator.specs.Pressure.{oneIf, linearNeed}
+use Rattle.translator.specs.Allocator.{allocationAfter, allocationBefore, allocationAtEnd}
+use Rattle.translator.specs.Shape.{withoutRegisters, instructionOf, registersIn, occurrences}
+use Rattle.translator.specs.Moment.{Holding}
+use Rattle.translator.specs.TranslateCall.{programNumbers, translating}
+use Rattle.translator.specs.SafeDelivery.{SafeDelivery, handedBack}
+
+-- ---- the machine, over any values
+
+-- A run that ends without a fault has read and written only registers below the limit.
+abbrev pub RunWithinLimit : Type 1
+RunWithinLimit =
+    (A : Type 0) (start : List A) (op : ℕ → A → A → A) (limit : ℕ) (is : List Instruction) (emitted : List A)
+    → run start op limit is ≡ some emitted → (d : ℕ) → isAmong d (registersIn is) ≡ true → d < limit
+
+-- Instructions as numbers say these instructions, whatever stands behind them.
+abbrev pub InstructionsAfterEncode : Type 0
+InstructionsAfterEncode = (is : List Instruction) (rest : List ℕ) → instructionsOf (length is) (encodeProgram is ++ rest) ≡ is
+
+-- ---- what the loops compute
+
+-- Whether a reference is used from gate j on is a compare with the table of last uses.
+abbrev pub LastUseDecides : Type 0
+LastUseDecides = (c : Circuit) (j v : ℕ) → j ≤ length (c .gates) → isUsedFrom c j v ≡ ltb j (lastUse c v)
+
+-- The need that one loop over the gates counts is 01's.
+abbrev pub PressureIsNeed : Type 0
+PressureIsNeed = (t : List ℕ) → WellFormed t → linearNeed (trim (decode t)) ≡ need (trim (decode t))
+
+-- The program that the loops write is that of the steps.
+abbrev pub AllocatorIsProgram : Type 0
+AllocatorIsProgram = (t : List ℕ) → WellFormed t → withEmits (trim (decode t)) (allocationAtEnd (trim (decode t))) ≡ program (trim (decode t))
+
+-- ---- the run
+
+-- On a machine with at least as many registers as the need the program never faults, and emits the values of the outputs in order,
+-- whatever is computed gate by gate.
+abbrev pub ProgramComputes : Type 1
+ProgramComputes =
+    (A : Type 0) (op : ℕ → A → A → A) (z : A) (start : List A) (t : List ℕ) → WellFormed t → length start ≡ firstGate (inputs t)
+    → (limit : ℕ) → need (trim (decode t)) ≤ limit
+    → run start op limit (program (trim (decode t))) ≡ some (atOutputs z (decode t) (foldGates op z (decode t .gates) start))
+
+-- So it emits the bits that the plain evaluator gives, in order, each at the level of its output's depth; the highest is D.
+abbrev pub ProgramEmitsOutputs : Type 0
+ProgramEmitsOutputs =
+    (t : List ℕ) → WellFormed t → (bytes : List ℕ) → length bytes ≡ inputs t → (limit : ℕ) → need (trim (decode t)) ≤ limit
+    → (emitted : List LeveledBit)
+    × (runOn bytes limit (program (trim (decode t))) ≡ some emitted)
+    × (map (λ b. b .bit) emitted ≡ evaluate (decode t) bytes)
+    × (map (λ b. b .level) emitted ≡ map (depth (decode t)) (decode t .outputs))
+    × (largest (map (λ b. b .level) emitted) ≡ circuitDepth (decode t))
+
+-- The need is at least 1, and so is every limit that is not below it.
+abbrev pub NeedIsSome : Type 0
+NeedIsSome = (t : List ℕ) → WellFormed t → 1 ≤ need (trim (decode t))
+
+-- 01, Register program, 13: no more registers than the need are used.
+abbrev pub RegistersWithinNeed : Type 0
+RegistersWithinNeed =
+    (t : List ℕ) → WellFormed t → (d : ℕ) → isAmong d (registersIn (program (trim (decode t)))) ≡ true → d < need (trim (decode t))
+
+-- ---- 01, Register program, 8, 9 and 11, of the program
+
+-- Its instructions are the steps in order, with registers, and then one emit an output.
+abbrev pub ProgramFollowsSteps : Type 0
+ProgramFollowsSteps =
+    (t : List ℕ) → WellFormed t
+    → map withoutRegisters (program (trim (decode t)))
+    ≡ map instructionOf (steps (trim (decode t))) ++ replicate (length (trim (decode t) .outputs)) (emitting 0)
+
+-- There are as many as used constants and inputs, gates and outputs, and at most 2,818.
+abbrev pub ProgramCount : Type 0
+ProgramCount =
+    (t : List ℕ) → WellFormed t
+    → (length (program (trim (decode t)))
+    ≡ rank (isUsedFrom (trim (decode t)) 0) (firstGate (inputs t)) + length (trim (decode t) .gates) + length (trim (decode t) .outputs))
+    × (length (program (trim (decode t))) ≤ maxInstructions)
+
+-- The steps have one operation a gate, in order.
+abbrev pub StepsOperateInOrder : Type 0
+StepsOperateInOrder = (c : Circuit) → operationsOf (steps c) ≡ c .gates
+
+-- Each constant or input that a gate or an output uses is loaded once, and nothing else is.
+abbrev pub StepsLoadOnce : Type 0
+StepsLoadOnce = (c : Circuit) (v : ℕ) → occurrences v (loadsOf (steps c)) ≡ oneIf (isConstantOrInput c v && isUsedFrom c 0 v)
+
+-- Just before gate i's operation come the loads of the constants and inputs that gate i uses and no gate before it. With the theorem above
+-- and the next one, these are the only loads there.
+abbrev pub StepsLoadAtFirstUse : Type 0
+StepsLoadAtFirstUse =
+    (c : Circuit) (i : ℕ) → i < length (c .gates)
+    → (before after : List Step)
+    × (steps c ≡ before ++ operandLoads c i (getD (c .gates) i noGate) ++ operate (firstGate (c .inputs) + i) (getD (c .gates) i noGate) ∷ after)
+    × (operationsOf before ≡ take i (c .gates))
+    × ((v : ℕ) → occurrences v (loadsOf (operandLoads c i (getD (c .gates) i noGate))) ≡ oneIf (isUnloaded c i v && isOperand v (getD (c .gates) i noGate)))
+
+-- The loads behind the last operation are those of the constants and inputs that only outputs use.
+abbrev pub StepsLoadForOutputs : Type 0
+StepsLoadForOutputs =
+    (c : Circuit)
+    → (before : List Step)
+    × (steps c ≡ before ++ outputLoads c 0 (c .outputs))
+    × (operationsOf before ≡ c .gates)
+    × (operationsOf (outputLoads c 0 (c .outputs)) ≡ [])
+    × ((v : ℕ) → occurrences v (loadsOf (outputLoads c 0 (c .outputs))) ≡ oneIf (isUnloaded c (length (c .gates)) v && isOutput c v))
+
+-- Just before gate i's operation, just after it, and before the first emit, each value that 01 says is held is in a register; between the
+-- first two moments lies one instruction.
+abbrev pub ValuesAreHeld : Type 1
+ValuesAreHeld =
+    (A : Type 0) (op : ℕ → A → A → A) (z : A) (start : List A) (t : List ℕ) → WellFormed t → length start ≡ firstGate (inputs t)
+    → (limit : ℕ) → need (trim (decode t)) ≤ limit
+    → ((i : ℕ) → i < length (trim (decode t) .gates)
+    → Holding op z start limit (trim (decode t)) i (allocationBefore (trim (decode t)) i) (isHeldBefore (trim (decode t)) i)
+    × Holding op z start limit (trim (decode t)) (suc i) (allocationAfter (trim (decode t)) (suc i)) (isHeldAfter (trim (decode t)) i)
+    × ((o : Instruction) × (allocationAfter (trim (decode t)) (suc i) .code ≡ allocationBefore (trim (decode t)) i .code ++ (o ∷ []))))
+    × Holding op z start limit (trim (decode t)) (length (trim (decode t) .gates)) (allocationAtEnd (trim (decode t))) (isHeldAtEnd (trim (decode t)))
+
+-- ---- the call
+
+-- What a success answers with is the need and a program at the front of the buffer, which on a machine with that limit emits the outputs'
+-- bits in order, and D as the highest level.
+abbrev pub TranslationRuns : Type 0
+TranslationRuns =
+    (t : List ℕ) (limit : ℕ) (buffer after : List ℕ) (count n : ℕ)
+    → translating t limit buffer ≡ leaving (gives (count ∷ n ∷ [])) after
+    → (n ≡ need (trim (decode t)))
+    × ((bytes : List ℕ) → length bytes ≡ inputs t
+    → (emitted : List LeveledBit)
+    × (runOn bytes limit (instructionsOf count after) ≡ some emitted)
+    × (map (λ b. b .bit) emitted ≡ evaluate (decode t) bytes)
+    × (largest (map (λ b. b .level) emitted) ≡ circuitDepth (decode t)))
+
+-- ---- demand 3
+
+-- The whole list is safe, for every circuit, rules, sites and input bytes that are not refused.
+abbrev pub DeliveryIsSafe : Type 0
+DeliveryIsSafe =
+    (circuit rules sites : List ℕ) → refusal circuit ≡ 0 → rulesRefusal rules ≡ 0 → sitesRefusal sites ≡ 0
+    → (bytes : List ℕ) → length bytes ≡ inputs circuit → SafeDelivery circuit rules sites bytes
+
+-- The same in the terms of the two calls, whatever `rewrite` is lent. After it has succeeded with `values` (lines, old D, old N, new D, new N,
+-- kept), its result begins with a table of as many lines, its verdicts with one a site, of which as many are 0 as were kept, and the
+-- numbers are bounded as above. Given that table, any limit and a buffer that is long enough, `translate` pleads 10 exactly below the
+-- need; and what it leaves after a success, run with its limit, emits the bits of the circuit first read, the new D as the highest level.
+abbrev pub CallsDeliver : Type 0
+CallsDeliver =
+    (circuit rules sites result work verdicts values : List ℕ)
+    → rewriting circuit rules sites result work verdicts .answer ≡ gives values
+    → (bytes : List ℕ) → length bytes ≡ inputs circuit
+    → SafeDelivery circuit rules sites bytes
+    × (take (3 * getD values 0 0) (rewriting circuit rules sites result work verdicts .result) ≡ encode (handedBack circuit rules sites))
+    × (take (siteCount sites) (rewriting circuit rules sites result work verdicts .verdicts) ≡ allVerdicts circuit rules sites)
+    × (getD values 5 0 ≡ zeros (allVerdicts circuit rules sites))
+    × (getD values 5 0 + 2049 * getD values 3 0 + getD values 4 0 ≤ 2049 * getD values 1 0 + getD values 2 0)
+    × ((limit : ℕ) (buffer : List ℕ) → programNumbers ≤ length buffer → 1 ≤ limit → limit ≤ maxRegisters
+    → (limit < need (handedBack circuit rules sites)
+    → translating (encode (handedBack circuit rules sites)) limit buffer ≡ leaving (refused 10 noTable) buffer)
+    × (need (handedBack circuit rules sites) ≤ limit
+    → (count : ℕ) × (after : List ℕ) × (emitted : List LeveledBit)
+    × (translating (encode (handedBack circuit rules sites)) limit buffer ≡ leaving (gives (count ∷ need (handedBack circuit rules sites) ∷ [])) after)
+    × (runOn bytes limit (instructionsOf count after) ≡ some emitted)
+    × (map (λ b. b .bit) emitted ≡ evaluate (decode circuit) bytes)
+    × (largest (map (λ b. b .level) emitted) ≡ getD values 3 0)))
