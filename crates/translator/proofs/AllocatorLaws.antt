@@ -49,7 +49,7 @@ module _ (c : Circuit) (k : Trimmed c) (i : ℕ) (h : i < length (c .gates)) (s 
   pub left-ensured : Ensured (references c) (isReady c i i) (isUsedFrom c i) (g .left) s
   left-ensured = ensured (references c) (isReady c i i) (isUsedFrom c i) (g .left) s (omega (arith, left-low c k i h)) (left-wanted c k i h) a
 
-  pub right-ensured : Ensured (references c) (withValue (g .left) (isReady c i i)) (isUsedFrom c i) (g .right) (ensureLoaded (g .left) s)
+  right-ensured : Ensured (references c) (withValue (g .left) (isReady c i i)) (isUsedFrom c i) (g .right) (ensureLoaded (g .left) s)
   right-ensured =
       ensured (references c) (withValue (g .left) (isReady c i i)) (isUsedFrom c i) (g .right) (ensureLoaded (g .left) s)
       (omega (arith, right-low c k i h)) (right-wanted c k i h) (left-ensured .allocated)
@@ -59,7 +59,7 @@ module _ (c : Circuit) (k : Trimmed c) (i : ℕ) (h : i < length (c .gates)) (s 
       allocated-same (references c) (withValue (g .right) (withValue (g .left) (isReady c i i))) (isReady c (suc i) i) (isUsedFrom c i) (isUsedFrom c i)
       (ensureOperands g s) (λ x. sym (ready-operands c k i h x)) (λ x. refl) (right-ensured .allocated)
 
-  pub operands-size : length (ensureOperands g s .owners) ≡ max (length (s .owners)) (countReferences c (isHeldBefore c i))
+  operands-size : length (ensureOperands g s .owners) ≡ max (length (s .owners)) (countReferences c (isHeldBefore c i))
   operands-size =
       let fewer = count-grows (withValue (g .left) (isReady c i i)) (isUsedFrom c i) (g .right) (references c) in
       let all : rank (λ x. withValue (g .right) (withValue (g .left) (isReady c i i)) x && isUsedFrom c i x) (references c) ≡ countReferences c (isHeldBefore c i)
@@ -86,13 +86,13 @@ module _ (c : Circuit) (k : Trimmed c) (i : ℕ) (h : i < length (c .gates)) (s 
   pub result-assigned : (make : ℕ → Instruction) → Assigned (references c) (isReady c (suc i) i) w result make (releaseOperands w g (ensureOperands g s))
   result-assigned make = assigned (references c) (isReady c (suc i) i) w result make (omega arith) (result-new c k i h) (k .used i h) _ both-released
 
-  pub turn-allocated : Allocated (references c) (isReady c (suc i) (suc i)) w (gateTurn c i g s)
+  turn-allocated : Allocated (references c) (isReady c (suc i) (suc i)) w (gateTurn c i g s)
   unfolding gateTurn
   turn-allocated =
       allocated-same (references c) (withValue result (isReady c (suc i) i)) (isReady c (suc i) (suc i)) w w _ (λ x. sym (ready-result c k i h x)) (λ x. refl)
       (result-assigned _ .allocated)
 
-  pub turn-size : length (gateTurn c i g s .owners) ≡ max (length (s .owners)) (heldAround c i)
+  turn-size : length (gateTurn c i g s .owners) ≡ max (length (s .owners)) (heldAround c i)
   unfolding gateTurn
   turn-size =
       let all : rank (λ x. withValue result (isReady c (suc i) i) x && w x) (references c) ≡ countReferences c (isHeldAfter c i)
@@ -111,7 +111,7 @@ module _ (c : Circuit) (k : Trimmed c) where
   after-allocated zero h = allocated-none (references c) (isReady c 0 0) (isUsedFrom c 0) (ready-none c)
   after-allocated (suc i) h = turn-allocated c k i h (allocationAfter c i) (after-allocated i (omega arith))
 
-  pub after-size : (i : ℕ) → i ≤ length (c .gates) → length (allocationAfter c i .owners) ≡ largest (mapBelow (heldAround c) i)
+  after-size : (i : ℕ) → i ≤ length (c .gates) → length (allocationAfter c i .owners) ≡ largest (mapBelow (heldAround c) i)
   unfolding allocationAfter mapBelow largest
   after-size zero h = refl
   after-size (suc i) h =
@@ -131,12 +131,12 @@ module _ (c : Circuit) (k : Trimmed c) where
       ∙ or-assoc (eqb v o) (isAmong v (take j (c .outputs))) p
 
   module _ (j : ℕ) (h : j < length (c .outputs)) (s : Allocation) (a : Allocated (references c) (readyOutputs c j) (isOutput c) s) where
-    pub output-ensured : Ensured (references c) (readyOutputs c j) (isOutput c) (getD (c .outputs) j 0) s
+    output-ensured : Ensured (references c) (readyOutputs c j) (isOutput c) (getD (c .outputs) j 0) s
     output-ensured =
         let o = among-element (c .outputs) j h in
         ensured (references c) (readyOutputs c j) (isOutput c) (getD (c .outputs) j 0) s (k .valid .outputs-below (getD (c .outputs) j 0) o) o a
 
-    pub output-allocated : Allocated (references c) (readyOutputs c (suc j)) (isOutput c) (ensureLoaded (getD (c .outputs) j 0) s)
+    output-allocated : Allocated (references c) (readyOutputs c (suc j)) (isOutput c) (ensureLoaded (getD (c .outputs) j 0) s)
     output-allocated =
         allocated-same (references c) (withValue (getD (c .outputs) j 0) (readyOutputs c j)) (readyOutputs c (suc j)) (isOutput c) (isOutput c) _
         (λ v. sym (more-outputs j h v)) (λ v. refl) (output-ensured .allocated)

@@ -29,7 +29,7 @@ unfolding stackOf
 stack-keeps a i x zero h = refl
 stack-keeps a i x (suc k) h = ap₂ _∷_ (getD-set-other a i k x 0 (omega arith)) (stack-keeps a i x k (omega arith))
 
-pub stack-push : (a : List ℕ) (k x : ℕ) → k < length a → stackOf (set a k x) (k + 1) ≡ x ∷ stackOf a k
+stack-push : (a : List ℕ) (k x : ℕ) → k < length a → stackOf (set a k x) (k + 1) ≡ x ∷ stackOf a k
 unfolding stackOf
 stack-push a k x h = rw (add-one k) (ap₂ _∷_ (getD-set-same a k x 0 h) (stack-keeps a k x k (omega arith)))
 
@@ -56,7 +56,7 @@ arrays-none owner freed place a b c e f =
     }
 
 module _ (owner freed place : List ℕ) (free fresh : ℕ) (k : RegisterArrays owner freed place free fresh) where
-  pub fresh-length : length (take fresh owner) ≡ fresh
+  fresh-length : length (take fresh owner) ≡ fresh
   fresh-length = length-take-le fresh owner (omega (arith, k .owner-long, k .fresh-limit))
 
   -- the registers that were used hold all owners
@@ -79,7 +79,7 @@ module _ (owner freed place : List ℕ) (free fresh : ℕ) (k : RegisterArrays o
     pub register-place : isAmong (suc v) (take fresh owner) ≡ true → registerOf (take fresh owner) v ≡ getD place v 0
     register-place e = sym (k .placed (registerOf (take fresh owner) v) v (read-owner _ v (register-at (take fresh owner) v e .0)))
 
-    pub place-owner : isAmong (suc v) (take fresh owner) ≡ true → getD owner (getD place v 0) 0 ≡ suc v
+    place-owner : isAmong (suc v) (take fresh owner) ≡ true → getD owner (getD place v 0) 0 ≡ suc v
     place-owner e = ap (λ d. getD owner d 0) (sym (register-place e)) ∙ read-owner _ v (register-at (take fresh owner) v e .0)
 
     -- so one look says whether

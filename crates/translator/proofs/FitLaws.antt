@@ -1,28 +1,26 @@
 -- What the loops of the allocator ask for at each gate and output: registers, room on the stack, and room in the program. Assumes nothing.
-use mathlib.Core.Path.{_≡_, refl, sym, ap, _∙_, fun-ext}
-use mathlib.Core.Bool.{Bool, true, false, true≢false, _||_}
-use mathlib.Core.List.{List, [], _∷_, _++_, map-append}
+use mathlib.Core.Path.{_≡_, sym, ap, _∙_, fun-ext}
+use mathlib.Core.Bool.{_||_}
+use mathlib.Core.List.{List, [], _∷_}
 use Prim.Native.Nat.{ℕ, suc, _+_, _≤_, _<_}
 use native.Mathlib.Numerals.{add-one}
 use native.Mathlib.Omega.{arith}
 use lib.Dec.{eqb, ltb}
-use lib.ListN.{length, take, getD, length-append}
-use lib.Seq.{take-suc}
+use lib.ListN.{length, getD, length-append}
 use Rattle.circuit.specs.Circuit.{Gate, Circuit, firstGate, references, noGate}
-use Rattle.circuit.specs.Path.{isAmong}
 use Rattle.circuit.proofs.ValidLaws.{Limited}
 use Rattle.translator.specs.LiveRange.{isUsedFrom, isReady}
 use Rattle.translator.specs.Need.{need}
 use Rattle.translator.specs.LastUse.{lastUse}
 use Rattle.translator.specs.Machine.{emitting, maxRegisters}
-use Rattle.translator.specs.Allocation.{Allocation, registerOf, assign}
+use Rattle.translator.specs.Allocation.{Allocation, assign}
 use Rattle.translator.specs.Allocator.{ensureLoaded, gateTurn, allocationAfter, allocationBefore, outputsLoaded}
-use Rattle.translator.specs.Program.{emits, program, maxInstructions}
+use Rattle.translator.specs.Program.{program, maxInstructions}
 use Rattle.translator.specs.Registers.{instructionAt, Loadable, Operable, Turnable}
 use Rattle.translator.proofs.TrimmedLaws.{Trimmed}
 use Rattle.translator.proofs.ReadyLaws.{result-new, left-low, right-low, left-wanted, right-wanted, left-ready, right-ready}
 use Rattle.translator.proofs.OwnerLaws.{Free, next-inside}
-use Rattle.translator.proofs.AllocationLaws.{Allocated, read-there, release-room}
+use Rattle.translator.proofs.AllocationLaws.{Allocated, read-there, release-room, ready-is}
 use Rattle.translator.proofs.AllocatorLaws.{release-size, left-ensured, operands-wanted, left-released, both-released, result-assigned, after-allocated, before-allocated, outputs-allocated}
 use Rattle.translator.proofs.SizeLaws.{ensure-grows, before-fits, after-fits, outputs-fit}
 use Rattle.translator.proofs.ShapeLaws.{program-limit}
@@ -46,23 +44,11 @@ module _ (c : Circuit) where
   wanted-read last u i h =
       fun-ext (λ v. ap (ltb (i + 1)) (u v) ∙ ap (λ j. ltb j (lastUse c v)) (add-one i) ∙ sym (used-from c (suc i) v h))
 
-pub emits-more : (ws os : List ℕ) (j : ℕ) → j < length os → emits ws (take (j + 1) os) ≡ emits ws (take j os) ++ (emitting (registerOf ws (getD os j 0)) ∷ [])
-emits-more ws os j h =
-    rw (add-one j) (ap (emits ws) (take-suc os j 0 h) ∙ map-append (λ o. emitting (registerOf ws o)) (take j os) (getD os j 0 ∷ []))
-
 -- ---- registers
 
 loadable : (v : ℕ) (s : Allocation) → Free (s .owners) (s .freed) → length (ensureLoaded v s .owners) ≤ maxRegisters → Loadable v s
 unfolding ensureLoaded assign
 loadable v s f l e = omega (arith, next-inside v (s .owners) (s .freed) f, rw e at l)
-
--- what is not ready is in no register
-absent : {n : ℕ} {p w : ℕ → Bool} {s : Allocation} (x : ℕ) → p x ≡ false → Allocated n p w s → isAmong (suc x) (s .owners) ≡ false
-absent {p = p} {s = s} x r a = go (isAmong (suc x) (s .owners)) refl
-  where
-    go : (b : Bool) → isAmong (suc x) (s .owners) ≡ b → b ≡ false
-    go true e = absurd (true≢false (sym (a .owned x e) ∙ r))
-    go false e = refl
 
 module _ (c : Circuit) (k : Trimmed c) (enough : need c ≤ maxRegisters) where
   module _ (i : ℕ) (h : i < length (c .gates)) where
@@ -105,7 +91,8 @@ module _ (c : Circuit) (k : Trimmed c) (enough : need c ≤ maxRegisters) where
             release-room (references c) (isReady c (suc i) i) w (g .right) _ (omega (arith, right-low c k i h)) (right-ready c k i h)
                 (left-released c k i h (allocationAfter c i) a) e,
           );
-          result-new = absent (firstGate (c .inputs) + i) (result-new c k i h) (both-released c k i h (allocationAfter c i) a);
+          result-new = ready-is (references c) (isReady c (suc i) i) w (firstGate (c .inputs) + i) _ (omega arith) (k .used i h)
+              (both-released c k i h (allocationAfter c i) a) ∙ result-new c k i h;
           result-next = omega (arith, result-assigned c k i h (allocationAfter c i) a (λ d. emitting d) .inside, after-fits c k (suc i) h);
         }
 

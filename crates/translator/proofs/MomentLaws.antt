@@ -31,7 +31,7 @@ Front is js = (rest : List Instruction) × (js ≡ is ++ rest)
 front-same : (is : List Instruction) → Front is is
 front-same is = ([], sym (append-nil is))
 
-pub front-then : (is js ks : List Instruction) → Front is js → Front js ks → Front is ks
+front-then : (is js ks : List Instruction) → Front is js → Front js ks → Front is ks
 front-then is js ks (a, e) (b, f) = (a ++ b, f ∙ ap (λ l. l ++ b) e ∙ append-assoc is a b)
 
 pub front-length : (is js : List Instruction) → Front is js → length is ≤ length js

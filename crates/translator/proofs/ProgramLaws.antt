@@ -82,7 +82,7 @@ module _ (c : Circuit) (k : Trimmed c) (owner freed place p : List ℕ) (free fr
       let q = ap (λ s. s .owners) (r .allocation) in
       ap emitting (ap (λ ws. registerOf ws o) (sym q) ∙ register-place owner freed place free fresh (r .arrays) o (ap (isAmong (suc o)) q ∙ end-holds c k o l)))
 
-  pub program-is : instructionsOf n p ++ map (λ v. emitting (getD place v 0)) (c .outputs) ≡ program c
+  program-is : instructionsOf n p ++ map (λ v. emitting (getD place v 0)) (c .outputs) ≡ program c
   program-is = ap₂ _++_ (ap (λ s. s .code) (r .allocation)) (sym places) ∙ end-is-program c k
 
   pub emits-fit : Limited c → n + length (c .outputs) ≤ maxInstructions

@@ -42,7 +42,7 @@ four (a ∷ b ∷ d ∷ []) h = absurd (omega arith)
 four (a ∷ b ∷ d ∷ e ∷ p) h = refl
 
 -- the numbers of the first n instructions
-pub encode-instructions : (n : ℕ) (p : List ℕ) → 4 * n ≤ length p → encodeProgram (instructionsOf n p) ++ drop (4 * n) p ≡ p
+encode-instructions : (n : ℕ) (p : List ℕ) → 4 * n ≤ length p → encodeProgram (instructionsOf n p) ++ drop (4 * n) p ≡ p
 unfolding encodeProgram instructionsOf
 encode-instructions zero p h = refl
 encode-instructions (suc n) p h =
@@ -77,7 +77,7 @@ module _ (p : List ℕ) (n : ℕ) (i : Instruction) (h : 4 * n + 4 ≤ length p)
       let is = instructionsOf n p ++ (i ∷ []) in
       ap₂ instructionsOf (sym all-length) written ∙ instructions-encode is (drop 4 (drop (4 * n) p))
 
-  pub write-beyond : drop (4 * (n + 1)) (sets p (4 * n) (numbersOf i)) ≡ drop (4 * (n + 1)) p
+  write-beyond : drop (4 * (n + 1)) (sets p (4 * n) (numbersOf i)) ≡ drop (4 * (n + 1)) p
   write-beyond =
       let is = instructionsOf n p ++ (i ∷ []) in
       let e : 4 * n + 4 ≡ 4 * (n + 1) = omega arith in
@@ -120,12 +120,12 @@ instruction-stores p at a b c d =
 
 module _ (owner freed place p : List ℕ) (free fresh n : ℕ) (k : RegisterArrays owner freed place free fresh) (v : ℕ) (make : ℕ → Instruction)
     (low : v < maxReferences) (out : isAmong (suc v) (take fresh owner) ≡ false) (room : 4 * (n + 1) ≤ length p) (p′ : List ℕ) where
-  abbrev Assigned : (d free′ fresh′ : ℕ) → Type 0
-  Assigned d free′ fresh′ =
+  abbrev AssignedTo : (d free′ fresh′ : ℕ) → Type 0
+  AssignedTo d free′ fresh′ =
       Represents (set owner d (suc v)) freed (set place v d) p′ free′ fresh′ (n + 1) p (assign v make (allocationOf owner freed p free fresh n))
 
   -- v takes a register that was never used
-  assigned-fresh : free ≡ 0 → fresh < maxRegisters → p′ ≡ sets p (4 * n) (numbersOf (make fresh)) → Assigned fresh 0 (fresh + 1)
+  assigned-fresh : free ≡ 0 → fresh < maxRegisters → p′ ≡ sets p (4 * n) (numbersOf (make fresh)) → AssignedTo fresh 0 (fresh + 1)
   unfolding assign
   assigned-fresh e l q =
       let o = owners-fresh owner freed place free fresh k v e l in
@@ -138,7 +138,7 @@ module _ (owner freed place p : List ℕ) (free fresh n : ℕ) (k : RegisterArra
       }
 
   -- or the one freed last
-  assigned-freed : (m : ℕ) → free ≡ m + 1 → p′ ≡ sets p (4 * n) (numbersOf (make (getD freed m 0))) → Assigned (getD freed m 0) m fresh
+  assigned-freed : (m : ℕ) → free ≡ m + 1 → p′ ≡ sets p (4 * n) (numbersOf (make (getD freed m 0))) → AssignedTo (getD freed m 0) m fresh
   unfolding assign
   assigned-freed m e q =
       let o = owners-freed owner freed place free fresh k v m e in

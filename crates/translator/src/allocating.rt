@@ -1,11 +1,8 @@
 // Registers for the values of a circuit, and the instructions that put them there: gate by gate, then for the outputs.
 ghost use mathlib.Core.Path.{_≡_};
-ghost use mathlib.Core.Bool.{true, false, _||_};
-ghost use mathlib.Core.List.{List};
-ghost use Prim.Native.Nat.{ℕ, zero, suc, _+_, _<_, _≤_};
-ghost use lib.Dec.{eqb, ltb};
+ghost use Prim.Native.Nat.{ℕ, _+_, _<_, _≤_};
+ghost use lib.Dec.{ltb};
 ghost use lib.ListN.{length, getD};
-ghost use Rattle.circuit.specs.Circuit.{firstGate};
 ghost use Rattle.circuit.specs.Table.{decode};
 ghost use Rattle.circuit.specs.Trim.{trim};
 ghost use Rattle.circuit.specs.WellFormed.{WellFormed};
@@ -13,8 +10,8 @@ ghost use Rattle.translator.specs.Machine.{maxRegisters};
 ghost use Rattle.translator.specs.Need.{need};
 ghost use Rattle.translator.specs.LastUse.{lastUse};
 ghost use Rattle.translator.specs.Program.{maxInstructions};
-ghost use Rattle.translator.specs.Allocation.{releaseOperands, operated};
-ghost use Rattle.translator.specs.Allocator.{ensureLoaded, ensureOperands, allocationAfter, outputsLoaded, allocationAtEnd};
+ghost use Rattle.translator.specs.Allocation.{operated};
+ghost use Rattle.translator.specs.Allocator.{ensureLoaded, ensureOperands, outputsLoaded, allocationAtEnd};
 ghost use Rattle.translator.specs.Registers.{maxReferences, instructionAt, allocationOf, gateOf, RegisterArrays, Represents, Loadable, Operable, Turnable};
 use crate::MAX_REFERENCES;
 use crate::MAX_REGISTERS;

@@ -43,13 +43,11 @@ fn next_register(freed: &[u32; MAX_REGISTERS], counts: Counts) -> u32
     freed[counts.free - 1]
 }
 
-// The counts when that one is taken, by an instruction.
-fn counts_after(counts: Counts) -> Counts
+// The counts when that one is taken and `written` instructions are written.
+fn counts_after(counts: Counts, written: usize) -> Counts
     requires { ⌜ counts .fresh ≤ maxRegisters ⌝ }
-    requires { ⌜ instructionAt (counts .written + 1) < 18446744073709551616 ⌝ }
-    ensures { λ r. ⌜ (r .free ≡ counts .free - 1) × (r .fresh ≡ first (eqb (counts .free) 0) (counts .fresh + 1) (counts .fresh)) × (r .written ≡ counts .written + 1) ⌝ }
+    ensures { λ r. ⌜ (r .free ≡ counts .free - 1) × (r .fresh ≡ first (eqb (counts .free) 0) (counts .fresh + 1) (counts .fresh)) × (r .written ≡ written) ⌝ }
 {
-    let written = counts.written + 1;
     if counts.free == 0 {
         return Counts {
             free: 0,
@@ -87,7 +85,7 @@ pub fn assign_register(
     owner[d as usize] = v as u32 + 1;
     place[v] = d;
     write_instruction(buffer, counts.written, opcode, d, a, b);
-    counts_after(counts)
+    counts_after(counts, counts.written + 1)
 }
 
 // The register of v is free from now on, unless v is to be kept.

@@ -2,6 +2,7 @@ use mathlib.Core.Bool.{true, false}
 use mathlib.Core.Path.{_≡_, sym, ap, _∙_}
 use lib.Dec.{leb}
 use borrow.Author.Tests.{leb-true, not-true, not-false}
+use borrow.Author.Needs.{needs}
 use Rattle.lists.proofs.Tests.{right-of}
 use Rattle.lines.specs.Text.{isPartial}
 use Rattle.lines.specs.Refusal.{leaving}
@@ -10,16 +11,8 @@ use Rattle.circuit.proofs.RefusalLaws.{accepted-is-well-formed}
 use Rattle.translator.specs.Machine.{maxRegisters}
 use Rattle.translator.specs.TranslateCall.{isLimit, paperValues}
 use Rattle.translator.proofs.CallLaws.{translation-partial, translation-short, translation-refused, translation-unlimited, translation-accepted}
-use borrow.Author.Needs.{needs}
 use Rattle.translator.proofs.translate.Statement.{statement}
 use Rattle.translator.proofs.translate.Tie as tie
-use Rattle.translator.proofs.translate.Reads as reads
-use Rattle.translator.proofs.translate.Lts as lts
-use Rattle.circuit.proofs.checked.is_partial.Reads as is-partial-reads
-use Rattle.circuit.proofs.checked.refusal.Reads as refusal-reads
-use Rattle.translator.proofs.is_limit.Reads as is-limit-reads
-use Rattle.translator.proofs.not_translated.Reads as not-translated-reads
-use Rattle.translator.proofs.program.translate_accepted.Reads as translate-accepted-reads
 
 -- what the tests that were passed say
 whole : (c : tie.Else1) → isPartial 3 (c .before .before .before .before .args .circuit .now) ≡ false

@@ -1,13 +1,13 @@
 use mathlib.Core.Path.{_≡_}
 use Prim.Native.Nat.{_-_, _≤_}
 use native.Mathlib.Omega.{arith}
+use borrow.Author.Needs.{needs}
 use Rattle.circuit.specs.Table.{gates, decode}
 use Rattle.translator.specs.Allocator.{allocationAfter}
 use Rattle.translator.specs.Registers.{gateOf, Represents}
 use Rattle.translator.proofs.LineLaws.{gate-read}
 use Rattle.translator.proofs.WritingLaws.{represents-same}
 use Rattle.translator.proofs.AllocatingLaws.{gates-none, gate-ready, gate-done, gates-all}
-use borrow.Author.Needs.{needs}
 use Rattle.translator.proofs.allocating.allocate_gates.Statement.{statement}
 use Rattle.translator.proofs.allocating.allocate_gates.Tie as tie
 

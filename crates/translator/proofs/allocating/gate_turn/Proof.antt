@@ -1,14 +1,14 @@
 use mathlib.Core.Path.{subst, sym, ap}
+use mathlib.Core.Bool.{Bool}
+use Prim.Native.Nat.{ℕ}
 use native.Mathlib.Omega.{arith}
 use lib.Dec.{ltb}
 use lib.ListN.{length, getD}
+use borrow.Author.Needs.{needs}
 use Rattle.translator.specs.Allocation.{Allocation, operated}
 use Rattle.translator.specs.Allocator.{ensureLoaded, ensureOperands}
 use Rattle.translator.specs.Registers.{gateOf, allocationOf, Represents, Loadable, Operable}
 use Rattle.translator.proofs.WritingLaws.{code-written, represents-then, ensure-longer, operated-longer}
-use Prim.Native.Nat.{ℕ}
-use mathlib.Core.Bool.{Bool}
-use borrow.Author.Needs.{needs}
 use Rattle.translator.proofs.allocating.gate_turn.Statement.{statement}
 use Rattle.translator.proofs.allocating.gate_turn.Tie as tie
 

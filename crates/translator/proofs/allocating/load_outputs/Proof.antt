@@ -1,6 +1,7 @@
-use Prim.Native.Nat.{_-_, _≤_}
 use mathlib.Core.Path.{_≡_, refl, sym, ap, _∙_}
+use Prim.Native.Nat.{_-_, _≤_}
 use native.Mathlib.Omega.{arith}
+use borrow.Author.Needs.{needs}
 use Rattle.circuit.specs.Table.{outputs, decode}
 use Rattle.circuit.proofs.TableLaws.{outputs-length}
 use Rattle.translator.specs.Allocator.{outputsLoaded}
@@ -8,7 +9,6 @@ use Rattle.translator.specs.Registers.{Represents}
 use Rattle.translator.proofs.LineLaws.{output-read}
 use Rattle.translator.proofs.WritingLaws.{represents-same}
 use Rattle.translator.proofs.AllocatingLaws.{output-ready, output-fits, output-done}
-use borrow.Author.Needs.{needs}
 use Rattle.translator.proofs.allocating.load_outputs.Statement.{statement}
 use Rattle.translator.proofs.allocating.load_outputs.Tie as tie
 

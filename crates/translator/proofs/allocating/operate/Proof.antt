@@ -1,14 +1,14 @@
 use mathlib.Core.Path.{_≡_, ap, _∙_}
+use Prim.Native.Nat.{suc}
 use native.Mathlib.Omega.{arith}
-use Rattle.circuit.specs.Path.{isAmong}
 use lib.Dec.{ltb}
 use lib.ListN.{length, getD}
-use Prim.Native.Nat.{suc}
+use borrow.Author.Needs.{needs}
+use Rattle.circuit.specs.Path.{isAmong}
 use Rattle.translator.specs.Allocation.{nextRegister, releaseOperands}
 use Rattle.translator.specs.Registers.{gateOf, allocationOf}
 use Rattle.translator.proofs.ArrayLaws.{stack-length}
 use Rattle.translator.proofs.WritingLaws.{releases, releases-written, operation-done}
-use borrow.Author.Needs.{needs}
 use Rattle.translator.proofs.allocating.operate.Statement.{statement}
 use Rattle.translator.proofs.allocating.operate.Tie as tie
 

@@ -2,6 +2,7 @@ use mathlib.Core.Path.{sym, ap, _∙_}
 use Prim.Native.Nat.{ℕ}
 use lib.Dec.{ltb}
 use lib.ListN.{take, replicate}
+use borrow.Author.Needs.{needs}
 use Rattle.lists.specs.First.{first}
 use Rattle.lines.specs.Refusal.{Outcome, refused, noTable, leaving}
 use Rattle.circuit.specs.Circuit.{Circuit}
@@ -12,7 +13,6 @@ use Rattle.circuit.proofs.TrimTheorems.{decode-trim}
 use Rattle.translator.specs.Need.{need}
 use Rattle.translator.specs.TranslateCall.{translated}
 use Rattle.translator.proofs.CallLaws.{trimmed-again}
-use borrow.Author.Needs.{needs}
 use Rattle.translator.proofs.program.translate_accepted.Statement.{statement}
 use Rattle.translator.proofs.program.translate_accepted.Tie as tie
 

@@ -2,6 +2,7 @@ use mathlib.Core.Path.{_≡_, ap, _∙_}
 use Prim.Native.Nat.{ℕ}
 use native.Mathlib.Omega.{arith}
 use lib.ListN.{length-replicate}
+use borrow.Author.Needs.{needs}
 use Rattle.lines.specs.Refusal.{leaving}
 use Rattle.circuit.specs.Table.{decode}
 use Rattle.circuit.proofs.PassLaws.{zeros-at}
@@ -12,7 +13,6 @@ use Rattle.translator.proofs.TrimmedLaws.{trimmed-fixed}
 use Rattle.translator.proofs.ShapeLaws.{program-limit}
 use Rattle.translator.proofs.PressureLaws.{linear-need}
 use Rattle.translator.proofs.CallLaws.{needs-more, needs-no-more}
-use borrow.Author.Needs.{needs}
 use Rattle.translator.proofs.program.translate_trimmed.Statement.{statement}
 use Rattle.translator.proofs.program.translate_trimmed.Tie as tie
 

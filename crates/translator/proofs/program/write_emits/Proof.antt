@@ -2,12 +2,12 @@ use mathlib.Core.Path.{_≡_, sym}
 use Prim.Native.Nat.{_-_, _≤_}
 use native.Mathlib.Omega.{arith}
 use lib.ListN.{getD}
+use borrow.Author.Needs.{needs}
 use Rattle.circuit.specs.Table.{outputs, decode}
 use Rattle.circuit.proofs.TableLaws.{outputs-length}
 use Rattle.translator.specs.Machine.{emitting}
 use Rattle.translator.proofs.LineLaws.{output-read}
 use Rattle.translator.proofs.ProgramLaws.{Emitted, emitted-none, emitted-more, emitted-all}
-use borrow.Author.Needs.{needs}
 use Rattle.translator.proofs.program.write_emits.Statement.{statement}
 use Rattle.translator.proofs.program.write_emits.Tie as tie
 

@@ -1,6 +1,7 @@
 use Prim.Native.Nat.{ℕ}
 use native.Mathlib.Omega.{arith}
 use lib.ListN.{length-replicate}
+use borrow.Author.Needs.{needs}
 use Rattle.circuit.specs.Table.{decode}
 use Rattle.circuit.proofs.TableLaws.{outputs-length}
 use Rattle.circuit.proofs.PassLaws.{zeros-at}
@@ -8,7 +9,6 @@ use Rattle.circuit.proofs.ValidLaws.{limited-decode}
 use Rattle.translator.proofs.TrimmedLaws.{trimmed-fixed}
 use Rattle.translator.proofs.ArrayLaws.{arrays-none}
 use Rattle.translator.proofs.ProgramLaws.{emits-fit, program-written}
-use borrow.Author.Needs.{needs}
 use Rattle.translator.proofs.program.write_program.Statement.{statement}
 use Rattle.translator.proofs.program.write_program.Tie as tie
 

@@ -1,9 +1,9 @@
 use Prim.Native.Nat.{_<_}
 use native.Mathlib.Omega.{arith}
+use borrow.Author.Needs.{needs}
 use Rattle.translator.specs.Machine.{operating, maxRegisters}
 use Rattle.translator.proofs.ArrayLaws.{next-is}
 use Rattle.translator.proofs.WritingLaws.{register-assigned}
-use borrow.Author.Needs.{needs}
 use Rattle.translator.proofs.registers.assign_register.Statement.{statement}
 use Rattle.translator.proofs.registers.assign_register.Tie as tie
 
@@ -46,6 +46,9 @@ element-write-place c = search needs
 write-instruction-requires : tie.Need-write-instruction-requires
 write-instruction-requires c κs = search needs
 
+add-counts-after : tie.Need-add-counts-after
+add-counts-after c = search needs
+
 counts-after-requires : tie.Need-counts-after-requires
 counts-after-requires c κs = search needs
 
@@ -54,11 +57,11 @@ same-length c = search needs
 
 returns : tie.Need-returns
 returns c =
-    let s = c .before .before .before .before .before .before .before in
+    let s = c .before .before .before .before .before .before .before .before in
     let a = s .args in
     register-assigned (a .owner .now) (a .freed .now) (a .place .now) (a .buffer .now) (a .counts .free) (a .counts .fresh) (a .counts .written) (s .pre .0) (a .v)
-    (λ d. operating (a .opcode) d (a .a) (a .b)) (s .pre .1 .0) (s .pre .1 .1 .0) (s .pre .1 .1 .1 .1) (c .before .before .before .write-instruction .last .0)
-    (c .before .before .before .before .before .next-register .result) (c .before .before .before .before .before .next-register .ensures) (inside (c .before .before .before .before .before)) (c .before .before .before .write-instruction .ensures) _ _ _ (c .counts-after .ensures)
+    (λ d. operating (a .opcode) d (a .a) (a .b)) (s .pre .1 .0) (s .pre .1 .1 .0) (s .pre .1 .1 .1 .1) (c .before .before .before .before .write-instruction .last .0)
+    (c .before .before .before .before .before .before .next-register .result) (c .before .before .before .before .before .before .next-register .ensures) (inside (c .before .before .before .before .before .before)) (c .before .before .before .before .write-instruction .ensures) _ _ _ (c .counts-after .ensures)
 
 pub assign-register-spec : {M : Type 1} → statement M
 assign-register-spec =
@@ -73,6 +76,7 @@ assign-register-spec =
     mul-place
     element-write-place
     write-instruction-requires
+    add-counts-after
     counts-after-requires
     same-length
     returns)

@@ -1,7 +1,7 @@
 use mathlib.Core.Path.{sym}
 use borrow.Author.Tests.{eq-eqb, ne-eqb}
-use Rattle.lists.proofs.First.{first-true, first-false}
 use borrow.Author.Needs.{needs}
+use Rattle.lists.proofs.First.{first-true, first-false}
 use Rattle.translator.proofs.registers.next_register.Statement.{statement}
 use Rattle.translator.proofs.registers.next_register.Tie as tie
 

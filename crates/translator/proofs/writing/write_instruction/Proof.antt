@@ -1,8 +1,8 @@
 use native.Mathlib.Omega.{arith}
 use lib.ListN.{length-set}
-use Rattle.translator.proofs.WritingLaws.{instruction-stores}
-use Rattle.translator.specs.Registers.{instructionAt}
 use borrow.Author.Needs.{needs}
+use Rattle.translator.specs.Registers.{instructionAt}
+use Rattle.translator.proofs.WritingLaws.{instruction-stores}
 use Rattle.translator.proofs.writing.write_instruction.Statement.{statement}
 use Rattle.translator.proofs.writing.write_instruction.Tie as tie
 
