@@ -21,7 +21,7 @@ use Rattle.translator.specs.Program.{instructionsOf, maxInstructions}
 use Rattle.translator.specs.Registers.{instructionAt, stackOf, allocationOf, RegisterArrays, Represents, Loadable, Turnable}
 use Rattle.translator.proofs.TrimmedLaws.{trimmed-fixed}
 use Rattle.translator.proofs.FitLaws.{allocation-more, outputs-more, wanted-read, turnable, output-loadable, output-writable}
-use Rattle.translator.proofs.WritingLaws.{represents-same, represents-then, ensure-longer, operated-longer}
+use Rattle.translator.proofs.RepresentsLaws.{represents-same, represents-then, ensure-longer, operated-longer}
 
 -- ---- gates
 

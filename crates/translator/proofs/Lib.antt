@@ -21,6 +21,7 @@ pub mod LastUseLaws
 pub mod CountingLaws
 pub mod ArrayLaws
 pub mod WritingLaws
+pub mod RepresentsLaws
 pub mod FitLaws
 pub mod AllocatingLaws
 pub mod ProgramLaws

@@ -22,7 +22,8 @@ use Rattle.translator.proofs.AllocatorLaws.{end-holds}
 use Rattle.translator.proofs.StepLaws.{end-is-program}
 use Rattle.translator.proofs.ShapeLaws.{program-limit}
 use Rattle.translator.proofs.ArrayLaws.{register-place}
-use Rattle.translator.proofs.WritingLaws.{instructions-length, numbersOf, write-instruction, beyond-more, beyond-then, beyond-all, code-written, ensure-longer}
+use Rattle.translator.proofs.WritingLaws.{instructions-length, numbersOf, write-instruction, beyond-more, beyond-then, beyond-all}
+use Rattle.translator.proofs.RepresentsLaws.{code-written, ensure-longer}
 
 -- ---- the loop of the emits
 

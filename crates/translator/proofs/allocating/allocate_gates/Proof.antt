@@ -6,7 +6,7 @@ use Rattle.circuit.specs.Table.{gates, decode}
 use Rattle.translator.specs.Allocator.{allocationAfter}
 use Rattle.translator.specs.Registers.{gateOf, Represents}
 use Rattle.translator.proofs.LineLaws.{gate-read}
-use Rattle.translator.proofs.WritingLaws.{represents-same}
+use Rattle.translator.proofs.RepresentsLaws.{represents-same}
 use Rattle.translator.proofs.AllocatingLaws.{gates-none, gate-ready, gate-done, gates-all}
 use Rattle.translator.proofs.allocating.allocate_gates.Statement.{statement}
 use Rattle.translator.proofs.allocating.allocate_gates.Tie as tie

@@ -1,6 +1,6 @@
 use mathlib.Core.Path.{sym, _∙_}
 use borrow.Author.Needs.{needs}
-use Rattle.translator.proofs.WritingLaws.{represents-same, ensure-there, ensure-absent, ensure-room}
+use Rattle.translator.proofs.RepresentsLaws.{represents-same, ensure-there, ensure-absent, ensure-room}
 use Rattle.translator.proofs.allocating.ensure_loaded.Statement.{statement}
 use Rattle.translator.proofs.allocating.ensure_loaded.Tie as tie
 

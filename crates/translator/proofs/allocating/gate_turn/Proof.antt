@@ -8,7 +8,7 @@ use borrow.Author.Needs.{needs}
 use Rattle.translator.specs.Allocation.{Allocation, operated}
 use Rattle.translator.specs.Allocator.{ensureLoaded, ensureOperands}
 use Rattle.translator.specs.Registers.{gateOf, allocationOf, Represents, Loadable, Operable}
-use Rattle.translator.proofs.WritingLaws.{code-written, represents-then, ensure-longer, operated-longer}
+use Rattle.translator.proofs.RepresentsLaws.{code-written, represents-then, ensure-longer, operated-longer}
 use Rattle.translator.proofs.allocating.gate_turn.Statement.{statement}
 use Rattle.translator.proofs.allocating.gate_turn.Tie as tie
 

@@ -7,7 +7,7 @@ use Rattle.circuit.proofs.TableLaws.{outputs-length}
 use Rattle.translator.specs.Allocator.{outputsLoaded}
 use Rattle.translator.specs.Registers.{Represents}
 use Rattle.translator.proofs.LineLaws.{output-read}
-use Rattle.translator.proofs.WritingLaws.{represents-same}
+use Rattle.translator.proofs.RepresentsLaws.{represents-same}
 use Rattle.translator.proofs.AllocatingLaws.{output-ready, output-fits, output-done}
 use Rattle.translator.proofs.allocating.load_outputs.Statement.{statement}
 use Rattle.translator.proofs.allocating.load_outputs.Tie as tie

@@ -8,7 +8,7 @@ use Rattle.circuit.specs.Path.{isAmong}
 use Rattle.translator.specs.Allocation.{nextRegister, releaseOperands}
 use Rattle.translator.specs.Registers.{gateOf, allocationOf}
 use Rattle.translator.proofs.ArrayLaws.{stack-length}
-use Rattle.translator.proofs.WritingLaws.{releases, releases-written, operation-done}
+use Rattle.translator.proofs.RepresentsLaws.{releases, releases-written, operation-done}
 use Rattle.translator.proofs.allocating.operate.Statement.{statement}
 use Rattle.translator.proofs.allocating.operate.Tie as tie
 

@@ -3,7 +3,7 @@ use native.Mathlib.Omega.{arith}
 use borrow.Author.Needs.{needs}
 use Rattle.translator.specs.Machine.{operating, maxRegisters}
 use Rattle.translator.proofs.ArrayLaws.{next-is}
-use Rattle.translator.proofs.WritingLaws.{register-assigned}
+use Rattle.translator.proofs.RepresentsLaws.{register-assigned}
 use Rattle.translator.proofs.registers.assign_register.Statement.{statement}
 use Rattle.translator.proofs.registers.assign_register.Tie as tie
 

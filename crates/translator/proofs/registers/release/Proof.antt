@@ -1,6 +1,6 @@
 use native.Mathlib.Omega.{arith}
 use borrow.Author.Needs.{needs}
-use Rattle.translator.proofs.WritingLaws.{release-none, release-freed}
+use Rattle.translator.proofs.RepresentsLaws.{release-none, release-freed}
 use Rattle.translator.proofs.registers.release.Statement.{statement}
 use Rattle.translator.proofs.registers.release.Tie as tie
 
