@@ -1,0 +1,143 @@
+//! What the test program `cases` must print: a line a case, of three files each.
+
+use std::fmt::Display;
+
+use crate::circuit::MOST_OUTPUTS;
+use crate::depth::measure;
+use crate::evaluation::evaluate;
+use crate::lines;
+use crate::matching::match_site;
+use crate::refusal::Answer;
+use crate::rewriting::rewrite;
+use crate::rules::judge;
+use crate::translation::{translate, PROGRAM_NUMBERS};
+
+/// As many numbers as the program's tables have room for.
+const CIRCUIT_ROOM: usize = 10_347;
+const TABLE_ROOM: usize = 6_915;
+const SITES_ROOM: usize = 1_539;
+
+/// The register limits that every circuit is translated with.
+const LIMITS: [u32; 9] = [0, 1, 2, 3, 4, 6, 10, 1024, 1025];
+
+/// The line of a case by the name of its first file and the three texts.
+pub fn case_line(name: &str, circuit: &[u8], rules: &[u8], sites: &[u8]) -> String {
+    let mut line = format!("{name}: {}", recoding(circuit));
+    let table = numbers(circuit, CIRCUIT_ROOM);
+    if !table.is_empty() {
+        line += &inspection(&table);
+    }
+    let patterns = numbers(rules, TABLE_ROOM);
+    if !patterns.is_empty() {
+        let places = numbers(sites, SITES_ROOM);
+        line += &judgements(&patterns);
+        line += &matches(&numbers(circuit, TABLE_ROOM), &patterns, &places);
+        line += &rewriting(&numbers(circuit, TABLE_ROOM), &patterns, &places);
+    }
+    line
+}
+
+/// The numbers of a text that reads into a table of that room; none if it is refused.
+fn numbers(text: &[u8], room: usize) -> Vec<u32> {
+    let mut table = vec![0; room];
+    let lines = lines::read(text, &mut table).unwrap_or(0);
+    table.truncate(3 * lines);
+    table
+}
+
+/// Words for an answer: its values, each after a blank, or the refusal.
+fn words<T: Display>(answer: Answer<Vec<T>>) -> String {
+    match answer {
+        Ok(values) => values.iter().map(|value| format!(" {value}")).collect(),
+        Err(refusal) => format!(" refused {} {}", refusal.number, refusal.table),
+    }
+}
+
+/// The text validated, then read and written back with room for four lines.
+fn recoding(text: &[u8]) -> String {
+    let whole = lines::lines_of_text(text, 0).map(|lines| lines.len());
+    let recoded = whole.and_then(|_| lines::read(text, &mut [0; 12]));
+    let counted = |answer: Answer<usize>| words(answer.map(|lines| vec![format!("lines {lines}")]));
+    format!(
+        "validate{}, read and write{}",
+        counted(whole),
+        counted(recoded)
+    )
+}
+
+/// A circuit measured, evaluated on patterns of bytes, and translated.
+fn inspection(table: &[u32]) -> String {
+    let pair = measure(table).map(|pair| vec![format!("D {} N {}", pair.depth, pair.critical)]);
+    let inputs = table[0].min(512) as usize;
+    let mut line = format!(", measure{}, evaluate", words(pair));
+    for (pattern, more) in [(0, 0), (1, 0), (2, 0), (3, 0), (0, 1)] {
+        line += &evaluation(table, pattern, inputs + more, MOST_OUTPUTS as usize);
+    }
+    line += &evaluation(table, 0, inputs, MOST_OUTPUTS as usize - 1);
+    line += ", translate";
+    for limit in LIMITS {
+        let translated = translate(table, limit, &mut [0; PROGRAM_NUMBERS]);
+        line += &words(translated.map(|answer| vec![answer.instructions, answer.need]));
+    }
+    line
+}
+
+/// The outputs as one word of bits. In pattern k the first k of each three bytes are not 0.
+fn evaluation(table: &[u32], pattern: usize, inputs: usize, room: usize) -> String {
+    let byte = |i| if i % 3 < pattern { 200 } else { 0 };
+    let bytes: Vec<u8> = (0..inputs).map(byte).collect();
+    let mut outputs = vec![0; room];
+    let count = evaluate(table, &bytes, &mut outputs);
+    let word = |count: usize| outputs[..count].iter().map(u8::to_string).collect();
+    words(count.map(|count| vec![String::from_iter::<Vec<String>>(word(count))]))
+}
+
+/// Rule 0, each rule, the number behind the last, and the largest number.
+fn judgements(rules: &[u32]) -> String {
+    let last = rules[0].min(64) + 1;
+    let verdict = |rule| words(judge(rules, rule).map(|verdict| vec![verdict]));
+    let all: String = (0..=last).chain([u32::MAX]).map(verdict).collect();
+    format!(", judge{all}")
+}
+
+/// Each line behind the head of the sites, and the largest numbers.
+fn matches(circuit: &[u32], rules: &[u32], sites: &[u32]) -> String {
+    let largest = [[1, u32::MAX, u32::MAX], [u32::MAX; 3]];
+    let listed = sites
+        .chunks_exact(3)
+        .skip(1)
+        .map(|line| [line[0], line[1], line[2]]);
+    let verdict = |[rule, gate, mask]: [u32; 3]| {
+        words(match_site(circuit, rules, rule, gate, mask).map(|verdict| vec![verdict]))
+    };
+    let all: String = listed.chain(largest).map(verdict).collect();
+    format!(", match{all}")
+}
+
+/// The answer, the table that was written and how many numbers were, and the verdicts.
+fn rewriting(circuit: &[u32], rules: &[u32], sites: &[u32]) -> String {
+    let mut result = vec![u32::MAX; TABLE_ROOM + 1];
+    let mut work = vec![0; TABLE_ROOM];
+    let mut verdicts = vec![u8::MAX; 513];
+    let answer = rewrite(circuit, rules, sites, &mut result, &mut work, &mut verdicts);
+    result.retain(|&number| number != u32::MAX);
+    verdicts.retain(|&verdict| verdict != u8::MAX);
+    let written = result.len();
+    let values = answer.map(|done| {
+        let (old, new) = (done.old, done.new);
+        vec![
+            done.lines as u32,
+            old.depth,
+            old.critical,
+            new.depth,
+            new.critical,
+            done.kept as u32,
+        ]
+    });
+    let table = words(Ok(result));
+    format!(
+        ", rewrite{} table{table} written {written} verdicts{}",
+        words(values),
+        words(Ok(verdicts))
+    )
+}

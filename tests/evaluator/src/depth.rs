@@ -1,0 +1,77 @@
+//! Depth and critical count (01, Depth and critical count).
+
+use crate::circuit::Circuit;
+use crate::gates::Kind;
+use crate::lines::lines_of_table;
+use crate::refusal::{Answer, CIRCUIT};
+
+/// D and N; the derived order is that of 01: D first, then N.
+#[derive(Clone, Copy, Debug, PartialEq, Eq, PartialOrd, Ord)]
+pub struct Pair {
+    pub depth: u32,
+    pub critical: u32,
+}
+
+/// D and N of a circuit's table.
+pub fn measure(circuit: &[u32]) -> Answer<Pair> {
+    let lines = lines_of_table(circuit, CIRCUIT)?;
+    Ok(pair(&Circuit::checked(&lines)?))
+}
+
+/// D and N: N counts live ANDs whose depth and above make up D.
+pub fn pair(circuit: &Circuit) -> Pair {
+    let depths = depths(circuit);
+    let largest = circuit.outputs.iter().map(|&output| depths[output]).max();
+    let depth = largest.unwrap_or(0);
+    let live = circuit.live();
+    let mut paths = Paths::new(circuit);
+    let critical = (circuit.first_gate()..circuit.references())
+        .filter(|&v| live[v] && circuit.gate(v).map(|gate| gate.kind) == Some(Kind::And))
+        .filter(|&v| paths.above(v).map(|above| depths[v] + above) == Some(depth))
+        .count() as u32;
+    Pair { depth, critical }
+}
+
+/// The depth of every reference.
+pub fn depths(circuit: &Circuit) -> Vec<u32> {
+    let mut depths = vec![0; circuit.first_gate()];
+    for gate in &circuit.gates {
+        let larger = depths[gate.left].max(depths[gate.right]);
+        depths.push(larger + gate.kind.ands());
+    }
+    depths
+}
+
+/// Walks paths up to the outputs, remembering what it has found.
+struct Paths<'a> {
+    circuit: &'a Circuit,
+    users: Vec<Vec<usize>>,
+    known: Vec<Option<Option<u32>>>,
+}
+
+impl Paths<'_> {
+    fn new(circuit: &Circuit) -> Paths<'_> {
+        Paths {
+            circuit,
+            users: circuit.users(),
+            known: vec![None; circuit.references()],
+        }
+    }
+
+    /// The most ANDs, v not counted, on a path from v up to an output; none if
+    /// no path leads to one.
+    fn above(&mut self, v: usize) -> Option<u32> {
+        if let Some(known) = self.known[v] {
+            return known;
+        }
+        let ends_here = self.circuit.outputs.contains(&v);
+        let mut most = ends_here.then_some(0);
+        for user in self.users[v].clone() {
+            let own = self.circuit.gates[user].kind.ands();
+            let through = self.above(self.circuit.first_gate() + user);
+            most = most.max(through.map(|beyond| own + beyond));
+        }
+        self.known[v] = Some(most);
+        most
+    }
+}

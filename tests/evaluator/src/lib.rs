@@ -1,0 +1,31 @@
+//! An independent reading of paper 01, "The depth rewriter and its rules".
+//!
+//! Everything here is plain and slow on purpose: each function renders a
+//! sentence or two of the paper, named in its comment by section. Nothing is
+//! shared with the product, so that agreement of the two says something.
+//!
+//! The calls: [`lines::read`], [`lines::write`], [`evaluation::evaluate`],
+//! [`depth::measure`], [`rules::judge`], [`matching::match_site`],
+//! [`rewriting::rewrite`], [`translation::translate`], [`listing::listing`] and
+//! [`listing::program_output`]. The register programs of others are judged by
+//! [`checking::check_program`] and run by [`machine::run`].
+
+pub mod cases;
+pub mod checking;
+pub mod circuit;
+pub mod depth;
+pub mod evaluation;
+pub mod gates;
+pub mod generator;
+pub mod holding;
+pub mod lines;
+pub mod listing;
+pub mod lists;
+pub mod machine;
+pub mod matching;
+pub mod random;
+pub mod refusal;
+pub mod rewriting;
+pub mod rules;
+pub mod sites;
+pub mod translation;

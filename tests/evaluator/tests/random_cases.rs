@@ -1,0 +1,102 @@
+//! The generator's cases: what they cover, and what must hold for all of them.
+
+mod common;
+
+use std::collections::BTreeSet;
+
+use common::{call_translate, refused};
+use evaluator::checking::check_program;
+use evaluator::circuit::Circuit;
+use evaluator::depth::pair;
+use evaluator::evaluation::output_bits;
+use evaluator::generator::{case, Case, FAULTS};
+use evaluator::lines::{lines_of_text, Line};
+use evaluator::listing::counted;
+use evaluator::random::Random;
+use evaluator::refusal::{Answer, CIRCUIT, RULES, SITES};
+use evaluator::rewriting::{run, Run};
+
+const CASES: u64 = 200;
+
+fn run_case(case: &Case) -> Answer<Run> {
+    let circuit = lines_of_text(counted(&case.circuit), CIRCUIT)?;
+    let rules = lines_of_text(counted(&case.rules), RULES)?;
+    let sites = lines_of_text(counted(&case.sites), SITES)?;
+    run(&circuit, &rules, &sites)
+}
+
+fn circuit_lines(case: &Case) -> Answer<Vec<Line>> {
+    lines_of_text(counted(&case.circuit), CIRCUIT)
+}
+
+fn cases() -> impl Iterator<Item = Case> {
+    (1..=CASES).map(|number| case(1, number))
+}
+
+#[test]
+fn every_verdict_and_every_refusal_occurs() {
+    let mut verdicts = BTreeSet::new();
+    let mut refusals = BTreeSet::new();
+    for case in cases() {
+        match run_case(&case) {
+            Ok(run) => verdicts.extend(run.verdicts),
+            Err(refusal) => {
+                refusals.insert(refusal);
+            }
+        }
+    }
+    assert_eq!(verdicts, (0..=6).collect());
+    assert_eq!(refusals, FAULTS.into_iter().collect());
+}
+
+#[test]
+fn a_case_does_not_depend_on_the_others() {
+    let [first, again, other] = [(1, 7), (1, 7), (2, 7)].map(|(seed, number)| case(seed, number));
+    assert_eq!(first.circuit, again.circuit);
+    assert_eq!(first.sites, again.sites);
+    assert_ne!(first.rules, other.rules);
+}
+
+#[test]
+fn rewriting_keeps_the_outputs_and_never_raises_the_pair() {
+    let mut random = Random::new(3, 0);
+    for case in cases() {
+        let Ok(run) = run_case(&case) else {
+            continue;
+        };
+        let lines = circuit_lines(&case).expect("a run has a circuit");
+        let circuit = Circuit::checked(&lines).expect("a run has a circuit");
+        assert!(run.new <= run.old);
+        assert_eq!(run.new == run.old, run.kept() == 0);
+        assert_eq!(run.new, pair(&run.circuit));
+        assert_eq!(run.circuit, run.circuit.trimmed());
+        for _ in 0..16 {
+            let inputs: Vec<u8> = (0..circuit.inputs).map(|_| random.input_byte()).collect();
+            let before = output_bits(&circuit, &inputs);
+            assert_eq!(output_bits(&run.circuit, &inputs), before);
+        }
+    }
+}
+
+#[test]
+fn translated_programs_are_right_at_the_need_and_above() {
+    for case in cases() {
+        let Ok(run) = run_case(&case) else {
+            continue;
+        };
+        for circuit in [circuit_lines(&case), Ok(run.circuit.lines())] {
+            let circuit = circuit.expect("a run has a circuit").concat();
+            let Ok((translated, _)) = call_translate(&circuit, 1024) else {
+                continue;
+            };
+            let need = translated.need as u32;
+            for limit in [need, (need + 1).min(1024), 1024] {
+                let (again, program) = call_translate(&circuit, limit).expect("enough registers");
+                assert_eq!(again, translated);
+                assert_eq!(check_program(&circuit, limit, &program, need), Ok(()));
+            }
+            let number = if need == 1 { 9 } else { 10 };
+            assert_eq!(call_translate(&circuit, need - 1), refused(number, 0));
+        }
+    }
+}
