@@ -41,7 +41,7 @@ fn pattern_byte(number: usize, i: usize) -> u8 {
     if i % 3 < number { 200 } else { 0 }
 }
 
-fn pattern(number: usize) -> [u8; 513]
+pub fn pattern(number: usize) -> [u8; 513]
     ensures { λ r. ⌜ 513 ≡ length r ⌝ }
 {
     let mut bytes = [0u8; 513];
@@ -68,7 +68,7 @@ fn print_short(table: &[u32], inputs: usize)
 }
 
 // As many input bytes as the table's head asks for, which may say anything.
-fn input_count(table: &[u32]) -> usize
+pub fn input_count(table: &[u32]) -> usize
     ensures { λ r. ⌜ r ≤ 512 ⌝ }
 {
     if table.len() == 0 {

@@ -11,10 +11,12 @@ use matching::print_matches;
 use printing::print_answer;
 use recoding::recode;
 use rewrites::print_rewriting;
+use translations::print_short_program;
 use translations::print_translations;
 
 mod inspecting;
 mod loading;
+mod machine;
 mod matching;
 mod printing;
 mod recoding;
@@ -54,6 +56,7 @@ fn try_circuit(i: usize) {
         print_evaluations(&table[..count]);
         io::write_all(STDOUT_FILENO, b", translate");
         print_translations(&table[..count]);
+        print_short_program(&table[..count]);
     }
 }
 

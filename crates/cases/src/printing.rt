@@ -26,3 +26,7 @@ pub fn print_number(number: u32) {
     io::write_all(STDOUT_FILENO, b" ");
     io::print_decimal(STDOUT_FILENO, number as u64);
 }
+
+pub fn print_byte(byte: u8) {
+    print_number(byte as u32);
+}

@@ -1,4 +1,5 @@
 // What the call `rewrite` gives for tables, and what it leaves in the buffers.
+use crate::printing::print_byte;
 use crate::printing::print_number;
 use crate::printing::print_refusal;
 use libc::STDOUT_FILENO;
@@ -32,14 +33,10 @@ fn written(table: &[u32]) -> u32 {
     count
 }
 
-fn verdict_number(verdict: u8) -> u32 {
-    verdict as u32
-}
-
 fn print_verdicts(verdicts: &[u8]) {
     for i in 0..verdicts.len() {
         if verdicts[i] != NO_VERDICT {
-            print_number(verdict_number(verdicts[i]));
+            print_byte(verdicts[i]);
         }
     }
 }

@@ -1,7 +1,12 @@
 // What the call `translate` gives for a table.
+use crate::inspecting::input_count;
+use crate::inspecting::pattern;
+use crate::machine::print_run;
 use crate::printing::print_number;
 use crate::printing::print_refusal;
+use libc::STDOUT_FILENO;
 use translator::Translated;
+ghost use Prim.Native.Nat.{_≤_};
 
 // Limits about as large as small circuits need, and those at both ends of what is allowed.
 const LIMITS: [u32; 9] = [0, 1, 2, 3, 4, 6, 10, 1024, 1025];
@@ -21,5 +26,43 @@ pub fn print_translations(circuit: &[u32]) {
     let limits = LIMITS;
     for i in 0..9 {
         print_translation(circuit, limits[i]);
+    }
+}
+
+// A program that is short enough to be read is printed whole, and run with no more registers than its need.
+const SHORT: u32 = 25;
+
+fn print_program(program: &[u32]) {
+    io::write_all(STDOUT_FILENO, b", program");
+    for i in 0..program.len() {
+        print_number(program[i]);
+    }
+}
+
+fn print_pattern_run(program: &[u32], limit: u32, number: usize, inputs: usize)
+    requires { ⌜ inputs ≤ 513 ⌝ }
+{
+    let bytes = pattern(number);
+    io::write_all(STDOUT_FILENO, b", run");
+    print_run(program, limit, &bytes[..inputs]);
+}
+
+fn print_short(circuit: &[u32], program: &[u32], need: u32) {
+    print_program(program);
+    let inputs = input_count(circuit);
+    print_pattern_run(program, need, 3, inputs);
+    print_pattern_run(program, need, 1, inputs);
+}
+
+pub fn print_short_program(circuit: &[u32]) {
+    let mut program = [0u32; 11272];
+    match translator::translate(circuit, 1024, &mut program) {
+        Translated::Program { instructions, need } => {
+            if instructions < SHORT {
+                let end = 4 * instructions as usize;
+                print_short(circuit, &program[..end], need);
+            }
+        }
+        Translated::Refused(_) => {}
     }
 }

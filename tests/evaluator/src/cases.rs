@@ -6,6 +6,7 @@ use crate::circuit::MOST_OUTPUTS;
 use crate::depth::measure;
 use crate::evaluation::evaluate;
 use crate::lines;
+use crate::machine::{run, Value, INSTRUCTION_NUMBERS};
 use crate::matching::match_site;
 use crate::refusal::Answer;
 use crate::rewriting::rewrite;
@@ -79,15 +80,39 @@ fn inspection(table: &[u32]) -> String {
         let translated = translate(table, limit, &mut [0; PROGRAM_NUMBERS]);
         line += &words(translated.map(|answer| vec![answer.instructions, answer.need]));
     }
-    line
+    line + &short_program(table, inputs)
 }
 
-/// The outputs as one word of bits. In pattern k the first k of each three bytes are not 0.
-fn evaluation(table: &[u32], pattern: usize, inputs: usize, room: usize) -> String {
+/// A program of fewer than 25 instructions, whole, and what it emits with no more registers than the need.
+fn short_program(table: &[u32], inputs: usize) -> String {
+    let mut program = vec![0; PROGRAM_NUMBERS];
+    let Ok(translated) = translate(table, 1024, &mut program) else {
+        return String::new();
+    };
+    if translated.instructions >= 25 {
+        return String::new();
+    }
+    program.truncate(INSTRUCTION_NUMBERS * translated.instructions);
+    let emitted = |pattern| {
+        let emitted = run(translated.need as u32, &bytes(pattern, inputs), &program);
+        let values = emitted.expect("the need is enough");
+        let words = |value: &Value| format!(" {} {}", u8::from(value.bit), value.level);
+        values.iter().map(words).collect::<String>()
+    };
+    let runs = format!(", run{}, run{}", emitted(3), emitted(1));
+    format!(", program{}{runs}", words(Ok(program)))
+}
+
+/// In pattern k the first k of each three bytes are not 0.
+fn bytes(pattern: usize, inputs: usize) -> Vec<u8> {
     let byte = |i| if i % 3 < pattern { 200 } else { 0 };
-    let bytes: Vec<u8> = (0..inputs).map(byte).collect();
+    (0..inputs).map(byte).collect()
+}
+
+/// The outputs as one word of bits.
+fn evaluation(table: &[u32], pattern: usize, inputs: usize, room: usize) -> String {
     let mut outputs = vec![0; room];
-    let count = evaluate(table, &bytes, &mut outputs);
+    let count = evaluate(table, &bytes(pattern, inputs), &mut outputs);
     let word = |count: usize| outputs[..count].iter().map(u8::to_string).collect();
     words(count.map(|count| vec![String::from_iter::<Vec<String>>(word(count))]))
 }

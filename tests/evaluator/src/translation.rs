@@ -45,24 +45,21 @@ pub fn instruction_count(trimmed: &Circuit, holding: &Holding) -> usize {
     trimmed.gates.len() + holding.loads() + trimmed.outputs.len()
 }
 
-/// The program that always takes the first free register; it uses as many
-/// registers as the need.
+/// The program. Of what 01 leaves open: a value takes the register that was
+/// freed last, or else the lowest never used; a gate's left operand is loaded
+/// and freed before its right one, and outputs' loads are in output order.
 fn allocated(trimmed: &Circuit, holding: &Holding) -> Vec<Instruction> {
-    let mut allocator = Allocator {
-        holding,
-        owners: Vec::new(),
-        program: Vec::new(),
-    };
+    let mut allocator = Allocator::of(holding);
     for (index, gate) in trimmed.gates.iter().enumerate() {
-        allocator.load(before(index));
+        allocator.load(&gate.operands(), before(index));
         let [a, b] = gate
             .operands()
             .map(|operand| allocator.register_of(operand));
-        allocator.free(after(index));
+        allocator.free(&gate.operands(), after(index));
         let d = allocator.take(trimmed.first_gate() + index);
         allocator.program.push([gate.kind.number(), d, a, b]);
     }
-    allocator.load(holding.emits);
+    allocator.load(&trimmed.outputs, holding.emits);
     for &output in &trimmed.outputs {
         let a = allocator.register_of(output);
         allocator.program.push([EMIT, a, 0, 0]);
@@ -74,26 +71,46 @@ struct Allocator<'a> {
     holding: &'a Holding,
     /// The reference whose value each register holds.
     owners: Vec<Option<usize>>,
+    /// The free registers, the one freed last at the end.
+    freed: Vec<usize>,
     program: Vec<Instruction>,
 }
 
 impl Allocator<'_> {
-    fn load(&mut self, moment: Moment) {
-        for reference in self.holding.loads_at(moment) {
-            let d = self.take(reference);
-            self.program.push([LOAD, d, reference as u32, 0]);
+    fn of(holding: &Holding) -> Allocator<'_> {
+        Allocator {
+            holding,
+            owners: Vec::new(),
+            freed: Vec::new(),
+            program: Vec::new(),
         }
     }
 
-    /// Frees the registers of values no longer held.
-    fn free(&mut self, moment: Moment) {
-        for owner in &mut self.owners {
-            *owner = owner.filter(|&reference| self.holding.is_held(reference, moment));
+    /// Loads those of the references that are to be loaded now, in their order.
+    fn load(&mut self, references: &[usize], moment: Moment) {
+        let due = self.holding.loads_at(moment);
+        for &reference in references {
+            if due.contains(&reference) && self.find(reference).is_none() {
+                let d = self.take(reference);
+                self.program.push([LOAD, d, reference as u32, 0]);
+            }
+        }
+    }
+
+    /// Frees the registers of those references that are no longer held, in their order.
+    fn free(&mut self, references: &[usize], moment: Moment) {
+        for &reference in references {
+            if !self.holding.is_held(reference, moment) {
+                if let Some(register) = self.find(reference) {
+                    self.owners[register] = None;
+                    self.freed.push(register);
+                }
+            }
         }
     }
 
     fn take(&mut self, reference: usize) -> u32 {
-        let register = self.find(None).unwrap_or_else(|| {
+        let register = self.freed.pop().unwrap_or_else(|| {
             self.owners.push(None);
             self.owners.len() - 1
         });
@@ -102,11 +119,13 @@ impl Allocator<'_> {
     }
 
     fn register_of(&self, reference: usize) -> u32 {
-        let register = self.find(Some(reference));
+        let register = self.find(reference);
         register.expect("a held value is in a register") as u32
     }
 
-    fn find(&self, owner: Option<usize>) -> Option<usize> {
-        self.owners.iter().position(|&found| found == owner)
+    fn find(&self, reference: usize) -> Option<usize> {
+        self.owners
+            .iter()
+            .position(|&owner| owner == Some(reference))
     }
 }

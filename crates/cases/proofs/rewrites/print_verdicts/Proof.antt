@@ -16,14 +16,11 @@ loop-holds c = search needs
 shared-slice-read-if1 : tie.Need-shared-slice-read-if1 Inv-loop μ-loop
 shared-slice-read-if1 c = search needs
 
-shared-slice-read-verdict-number : tie.Need-shared-slice-read-verdict-number Inv-loop μ-loop
-shared-slice-read-verdict-number c = search needs
+shared-slice-read-print-byte : tie.Need-shared-slice-read-print-byte Inv-loop μ-loop
+shared-slice-read-print-byte c = search needs
 
-verdict-number-requires : tie.Need-verdict-number-requires Inv-loop μ-loop
-verdict-number-requires c κs = search needs
-
-print-number-requires : tie.Need-print-number-requires Inv-loop μ-loop
-print-number-requires c κs = search needs
+print-byte-requires : tie.Need-print-byte-requires Inv-loop μ-loop
+print-byte-requires c κs = search needs
 
 add-i : tie.Need-add-i Inv-loop μ-loop
 add-i c = search needs
@@ -45,9 +42,8 @@ print-verdicts-spec =
     μ-loop
     loop-holds
     shared-slice-read-if1
-    shared-slice-read-verdict-number
-    verdict-number-requires
-    print-number-requires
+    shared-slice-read-print-byte
+    print-byte-requires
     add-i
     loop-less
     loop-again

@@ -1,0 +1,150 @@
+// The register machine of 01, to run what `translate` wrote.
+use crate::printing::print_byte;
+use crate::printing::print_number;
+use libc::STDOUT_FILENO;
+ghost use Prim.Native.Nat.{_<_};
+
+const REGISTERS: usize = 1024;
+
+// What stands for an empty register, and for the bit of a reference that is neither a constant nor an input.
+const NOTHING: u8 = 2;
+
+// The bit of a constant or an input.
+fn start_bit(inputs: &[u8], reference: u32) -> u8 {
+    if reference < 2 {
+        return reference as u8;
+    }
+    let k = (reference - 2) as usize;
+    if inputs.len() <= k {
+        return NOTHING;
+    }
+    if inputs[k] == 0 { 0 } else { 1 }
+}
+
+fn gate_bit(kind: u32, x: u8, y: u8) -> u8 {
+    if kind == 2 { x & y } else { x ^ y }
+}
+
+// No program has so many instructions that a level would stay.
+fn gate_level(kind: u32, a: u32, b: u32) -> u32 {
+    let level = if a < b { b } else { a };
+    if kind == 2 {
+        if level < 4096 {
+            return level + 1;
+        }
+    }
+    level
+}
+
+fn load(bits: &mut [u8; REGISTERS], levels: &mut [u32; REGISTERS], d: usize, bit: u8) -> bool
+    requires { ⌜ d < 1024 ⌝ }
+{
+    bits[d] = bit;
+    levels[d] = 0;
+    bit != NOTHING
+}
+
+fn operate(
+    bits: &mut [u8; REGISTERS],
+    levels: &mut [u32; REGISTERS],
+    kind: u32,
+    d: usize,
+    a: usize,
+    b: usize,
+) -> bool
+    requires { ⌜ d < 1024 ⌝ }
+    requires { ⌜ a < 1024 ⌝ }
+    requires { ⌜ b < 1024 ⌝ }
+{
+    let x = bits[a];
+    let y = bits[b];
+    let level = gate_level(kind, levels[a], levels[b]);
+    bits[d] = gate_bit(kind, x, y);
+    levels[d] = level;
+    (x != NOTHING) & (y != NOTHING)
+}
+
+fn emit(bits: &[u8; REGISTERS], levels: &[u32; REGISTERS], a: usize) -> bool
+    requires { ⌜ a < 1024 ⌝ }
+{
+    print_byte(bits[a]);
+    print_number(levels[a]);
+    bits[a] != NOTHING
+}
+
+// One instruction. It answers false for a fault.
+fn perform(
+    bits: &mut [u8; REGISTERS],
+    levels: &mut [u32; REGISTERS],
+    inputs: &[u8],
+    limit: u32,
+    opcode: u32,
+    first: u32,
+    second: u32,
+    third: u32,
+) -> bool
+    requires { ⌜ limit < 1025 ⌝ }
+{
+    if limit <= first {
+        return false;
+    }
+    match opcode {
+        3 => {
+            if (second != 0) | (third != 0) {
+                return false;
+            }
+            emit(bits, levels, first as usize)
+        }
+        4 => {
+            if third != 0 {
+                return false;
+            }
+            load(bits, levels, first as usize, start_bit(inputs, second))
+        }
+        1..=2 => {
+            if limit <= second {
+                return false;
+            }
+            if limit <= third {
+                return false;
+            }
+            operate(
+                bits,
+                levels,
+                opcode,
+                first as usize,
+                second as usize,
+                third as usize,
+            )
+        }
+        _ => false,
+    }
+}
+
+// Runs a program, and prints a bit and a level an emit.
+pub fn print_run(program: &[u32], limit: u32, inputs: &[u8]) {
+    if 1024 < limit {
+        return;
+    }
+    let mut bits = [NOTHING; REGISTERS];
+    let mut levels = [0u32; REGISTERS];
+    let count = program.len() / 4;
+    let mut i: usize = 0;
+    while i < count {
+        let p = 4 * i;
+        if !perform(
+            &mut bits,
+            &mut levels,
+            inputs,
+            limit,
+            program[p],
+            program[p + 1],
+            program[p + 2],
+            program[p + 3],
+        ) {
+            io::write_all(STDOUT_FILENO, b" fault");
+            return;
+        }
+        i += 1;
+    }
+}
