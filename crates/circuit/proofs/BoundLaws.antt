@@ -27,10 +27,6 @@ use Rattle.circuit.proofs.PassLaws.{zeros-at, mark-length, raise-length
 -- ---- lengths
 
 module _ (c : Circuit) where
-  pub bits-length : (bytes : List ℕ) → length bytes ≡ c .inputs → length (bits c bytes) ≡ references c
-  unfolding bits
-  bits-length bytes e = each-length (gateValue bitOp 0) (c .gates) (startBits bytes) ∙ omega (arith, length-map bytes bitOf)
-
   pub depths-length : length (depths c) ≡ references c
   unfolding depths
   depths-length =

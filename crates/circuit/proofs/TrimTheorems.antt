@@ -24,7 +24,7 @@ use Rattle.circuit.specs.Theorems.{TrimmedIsWellFormed, TrimKeepsCounts,
 use Rattle.circuit.proofs.TableLaws.{gates-length, outputs-length, refs-decode}
 use Rattle.circuit.proofs.EachLaws.{each-at}
 use Rattle.circuit.proofs.RefusalLaws.{whole, well-formed-accepted}
-use Rattle.circuit.proofs.EncodingLaws.{decode-after-encode, encode-inputs, encode-gates, encode-outputs, encode-long}
+use Rattle.circuit.proofs.EncodingLaws.{decode-after-encode, encode-inputs, encode-gates, encode-outputs}
 use Rattle.circuit.proofs.ValidLaws.{valid-decode, limited-decode, well-formed-encode}
 use Rattle.circuit.proofs.MeasureLaws.{measurement-well-formed}
 use Rattle.circuit.proofs.RankLaws.{rank-mono, keep-length}
@@ -48,10 +48,6 @@ trim-keeps-counts t w =
       encode-outputs (trim c) ∙ length-map (c .outputs) (rank (isKept c)) ∙ outputs-length t,
       omega (arith, encode-gates (trim c), keep-length (isKept c) (firstGate (inputs t)) (gateLines t), gates-length t),
     )
-
--- the trimmed table is no longer than the table
-pub trim-length : (t : List ℕ) → WellFormed t → length (trimOf t) ≤ length t
-trim-length t w = omega (arith, encode-long (trim (decode t)), trim-keeps-counts t w, w .sized .long)
 
 pub trim-keeps-gates : TrimKeepsGates
 unfolding trim

@@ -1,7 +1,6 @@
 -- Lines of a side: what loops over the gate lines of a rule, and readers of them, need. The lines are n, from number q of the table on;
 -- a loop that has come to line i cites `step-from` (circuit). Assumes nothing.
 use mathlib.Core.Path.{_≡_, sym, ap, _∙_}
-use mathlib.Core.Logic.{_⊎_}
 use mathlib.Core.Bool.{true}
 use mathlib.Core.List.{List, [], _∷_}
 use Prim.Native.Nat.{ℕ, suc, _+_, _*_, _<_}
@@ -11,13 +10,12 @@ use lib.ListN.{drop, getD}
 use lib.Seq.{getD-drop}
 use borrow.Author.Tests.{ltb-true}
 use Rattle.lists.proofs.Tests.{left-of, right-of}
-use Rattle.circuit.specs.Circuit.{Gate, xorKind, andKind, noGate}
+use Rattle.circuit.specs.Circuit.{Gate, noGate}
 use Rattle.circuit.specs.Table.{lineAt, linesOf}
 use Rattle.circuit.specs.Each.{allGates, EachGate}
-use Rattle.circuit.specs.Refusal.{hasGateKind, operandsBelow}
+use Rattle.circuit.specs.Refusal.{operandsBelow}
 use Rattle.circuit.proofs.TableLaws.{step-from}
 use Rattle.circuit.proofs.EachLaws.{all-at}
-use Rattle.circuit.proofs.RefusalLaws.{either}
 
 module _ (n q : ℕ) (t : List ℕ) where
   pub line-of : (i : ℕ) → i < n → getD (linesOf n (drop q t)) i noGate ≡ lineAt t (q + 3 * i)
@@ -33,10 +31,6 @@ module _ (n q : ℕ) (t : List ℕ) where
       let a = ltb (getD t (q + 3 * i + 1) 0) (m + i) in
       let b = ltb (getD t (q + 3 * i + 2) 0) (m + i) in
       (ltb-true _ _ (left-of a b o), ltb-true _ _ (right-of a b o))
-
-  pub kind-at : (m : ℕ) → allGates hasGateKind m (linesOf n (drop q t)) ≡ true → (i : ℕ) → i < n
-      → (getD t (q + 3 * i) 0 ≡ xorKind) ⊎ (getD t (q + 3 * i) 0 ≡ andKind)
-  kind-at m e i h = either (getD t (q + 3 * i) 0) (all-at hasGateKind m (linesOf n (drop q t)) i (lineAt t (q + 3 * i)) e (step-from q n t i h))
 
 -- what does not go by the references holds whichever the first is
 pub each-from : (P : Gate → Type 0) (m n : ℕ) (gs : List Gate) → EachGate (λ k g. P g) m gs → EachGate (λ k g. P g) n gs

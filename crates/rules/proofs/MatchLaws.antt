@@ -45,11 +45,6 @@ module _ (o : Option (List ℕ)) (f : List ℕ → Option (List ℕ)) (x : Bool)
   unfolding bind
   then-none h = ap (λ y. bind (attempt y b) f) (sym h) ∙ ap (λ p. bind p f) e
 
--- a gate's operands
-pub operands-bind : (g : Gate) (x y : ℕ) (b : List ℕ) → bind (bindReference (g .left) x b) (bindReference (g .right) y) ≡ bindOperands g x y b
-unfolding bindOperands
-operands-bind g x y b = refl
-
 -- ---- one left gate's part, by its tests on what the place of m holds
 
 pub is-gate : (c : Circuit) (v : ℕ) → firstGate (c .inputs) ≤ v → v < references c → isGate c v ≡ true

@@ -1,7 +1,6 @@
 -- A rules table is well formed exactly if it is not refused; and what a reader of a well-formed table knows of each rule and each
 -- of its lines. Assumes nothing.
 use mathlib.Core.Path.{_≡_, refl, sym, ap, _∙_}
-use mathlib.Core.Logic.{_⊎_}
 use mathlib.Core.Bool.{Bool, true, false, not, _&&_, _||_}
 use mathlib.Core.List.{List}
 use Prim.Native.Nat.{ℕ, zero, suc, _+_, _*_, _-_, _%_, _≤_, _<_}
@@ -12,7 +11,7 @@ use borrow.Author.Tests.{eq-eqb, ne-eqb, eqb-true, eqb-false, ltb-true, not-fals
 use Rattle.lists.specs.First.{first}
 use Rattle.lists.proofs.Tests.{left-of, right-of}
 use Rattle.lines.specs.Text.{isPartial}
-use Rattle.circuit.specs.Circuit.{xorKind, andKind, closingKind, firstGate}
+use Rattle.circuit.specs.Circuit.{firstGate}
 use Rattle.circuit.specs.Table.{lineAt}
 use Rattle.circuit.specs.Each.{allGates}
 use Rattle.circuit.specs.Refusal.{hasGateKind, isClosing, operandsBelow}
@@ -27,7 +26,7 @@ use Rattle.rules.specs.Rule.{maxLeftReferences}
 use Rattle.rules.specs.Verdict.{hasRule}
 use Rattle.rules.specs.Theorems.{AcceptedRulesAreWellFormed, EachRuleIsWellFormed}
 use Rattle.rules.proofs.WalkLaws.{walk-end, rules-sized-of, walk-sized, walk-at, rules-at, rule-from, rule-to}
-use Rattle.rules.proofs.LineLaws.{operands-at, kind-at, each-from}
+use Rattle.rules.proofs.LineLaws.{operands-at, each-from}
 
 -- ---- whole lines
 
@@ -150,9 +149,6 @@ module _ (t : List ℕ) where
     pub right-kinds-ok : allGates hasGateKind 0 (ruleAt t p .rights) ≡ true
     right-kinds-ok = left-of (allGates hasGateKind 0 (ruleAt t p .rights)) _ closing-kinds
 
-    closing-ok : isClosing 0 (lineAt t (closingFrom t p)) ≡ true
-    closing-ok = right-of (allGates hasGateKind 0 (ruleAt t p .rights)) _ closing-kinds
-
     -- each line, at the places that loops read
     module _ (i : ℕ) where
       pub left-operands : i < leftsAt t p
@@ -164,23 +160,6 @@ module _ (t : List ℕ) where
       left-operands-small h q e =
           let o = left-operands h in
           rw e (omega (arith, o, w .sized), omega (arith, o, w .sized))
-
-      pub right-operands : i < rightsAt t p
-          → (getD t (rightFrom t p + 3 * i + 1) 0 < firstGate (holesAt t p) + i) × (getD t (rightFrom t p + 3 * i + 2) 0 < firstGate (holesAt t p) + i)
-      right-operands h =
-          operands-at (rightsAt t p) (rightFrom t p) t (firstGate (holesAt t p)) right-references-ok i h
-
-      pub left-kind : i < leftsAt t p → (getD t (leftFrom t p + 3 * i) 0 ≡ xorKind) ⊎ (getD t (leftFrom t p + 3 * i) 0 ≡ andKind)
-      left-kind h = kind-at (leftsAt t p) (leftFrom t p) t 0 left-kinds-ok i h
-
-      pub right-kind : i < rightsAt t p → (getD t (rightFrom t p + 3 * i) 0 ≡ xorKind) ⊎ (getD t (rightFrom t p + 3 * i) 0 ≡ andKind)
-      right-kind h = kind-at (rightsAt t p) (rightFrom t p) t 0 right-kinds-ok i h
-
-    pub closing-kind : getD t (closingFrom t p) 0 ≡ closingKind
-    closing-kind = eqb-true _ _ (left-of (eqb (getD t (closingFrom t p) 0) closingKind) _ closing-ok)
-
-    pub closing-zero : getD t (closingFrom t p + 2) 0 ≡ 0
-    closing-zero = eqb-true _ _ (right-of (eqb (getD t (closingFrom t p) 0) closingKind) _ closing-ok)
 
     pub closing-below : getD t (closingFrom t p + 1) 0 < firstGate (holesAt t p) + rightsAt t p
     closing-below =

@@ -13,7 +13,7 @@ use Rattle.lists.proofs.First.{first-true, first-false}
 use Rattle.lists.proofs.Tests.{both, left-of, right-of}
 use Rattle.circuit.proofs.RefusalLaws.{passed}
 use Rattle.rules.specs.Rule.{maxRules, maxHoles, maxLefts, maxRights}
-use Rattle.rules.specs.RuleTable.{ruleCount, rulesFrom, holesAt, leftsAt, rightsAt, nextRule, placeFrom, placeOf}
+use Rattle.rules.specs.RuleTable.{ruleCount, rulesFrom, holesAt, leftsAt, rightsAt, nextRule, placeFrom}
 use Rattle.rules.specs.RuleRefusal.{rulesHeadInLimits, ruleInLimits, walk, walkFromTop, allRules}
 use Rattle.rules.specs.WellFormed.{RuleSized, RulesSized}
 use Rattle.rules.specs.Verdict.{hasRule}
@@ -173,9 +173,6 @@ module _ (t : List ℕ) where
 
   pub has-rule : (rule : ℕ) → 1 ≤ rule → rule ≤ ruleCount t → hasRule t rule ≡ true
   has-rule rule h k = both {a = leb 1 rule} (le-leb 1 rule h) (le-leb rule (ruleCount t) k)
-
-  pub place-sized : RulesSized t → (rule : ℕ) → hasRule t rule ≡ true → RuleSized t (placeOf t rule)
-  place-sized s rule h = walk-at (ruleCount t) (rulesFrom t) (rule - 1) (omega (arith, rule-from rule h, rule-to rule h)) (s .walked)
 
 -- A loop that tests all rules, with n rules left and the first at p; and a test that all pass, at one of them.
 module _ (test : ℕ → Bool) (t : List ℕ) where

@@ -1,0 +1,14 @@
+pub mod RecordLaws
+pub mod TextLaws
+pub mod FrontLaws
+pub mod NumberLaws
+pub mod ListingLaws
+pub mod WriteLaws
+pub mod RefusalLaws
+pub mod KnownLaws
+pub mod CallLaws
+pub mod LimitLaws
+pub mod ListingTheorems
+pub mod PackingLaws
+pub mod PackingTheorems
+pub mod ExportLaws

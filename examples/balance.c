@@ -1,0 +1,99 @@
+/* Rewrites a circuit by tables: ((2 * 3) * 4) * 5 of four inputs, by the rule from ((v * w) * y) * z to (v * w) * (y * z), at its last gate.
+ *
+ *   rt staticlib host && cc -Iinclude examples/balance.c target/staticlib/libhost.a -o target/balance && target/balance
+ */
+#include <stdio.h>
+#include <stdlib.h>
+#include <string.h>
+
+#include "napspruce.h"
+
+#define COUNT(array) (sizeof(array) / sizeof *(array))
+
+static const uint32_t circuit[] = {
+    4, 3, 1, /* inputs 2 to 5, gates 6 to 8, one output */
+    2, 2, 3, /* 6 = 2 * 3 */
+    2, 6, 4, /* 7 = 6 * 4 */
+    2, 7, 5, /* 8 = 7 * 5 */
+    3, 8, 0, /* the output is 8 */
+};
+
+static const uint32_t rules[] = {
+    1, 0, 0,                            /* one rule */
+    4, 3, 3,                            /* holes 2 to 5, gates 6 to 8 on the left, 6 to 8 on the right */
+    2, 2, 3, 2, 6, 4, 2, 7, 5,          /* ((2 * 3) * 4) * 5 */
+    2, 2, 3, 2, 4, 5, 2, 6, 7, 3, 8, 0, /* (2 * 3) * (4 * 5) */
+};
+
+static const uint32_t sites[] = {
+    1, 0, 0, /* one site */
+    1, 8, 0, /* rule 1 at gate 8, no operands crossed */
+};
+
+/* Gives a call's result, or ends the program with the refusal. */
+static uint64_t accepted(const char *call, uint64_t result)
+{
+    if (NAPSPRUCE_IS_REFUSAL(result)) {
+        fprintf(stderr, "%s: refused %u %u\n", call, NAPSPRUCE_REFUSAL_NUMBER(result), NAPSPRUCE_REFUSAL_TABLE(result));
+        exit(1);
+    }
+    return result;
+}
+
+static void expect(const char *what, int holds)
+{
+    if (!holds) {
+        fprintf(stderr, "%s: not as expected\n", what);
+        exit(1);
+    }
+}
+
+static void print_table(const uint32_t *table, size_t count)
+{
+    static uint8_t text[19 * NAPSPRUCE_TABLE / 3];
+    accepted("write", napspruce_write(table, count, text, sizeof text));
+    fwrite(text, 1, 19 * (count / 3), stdout);
+}
+
+/* Both circuits give the same outputs on all inputs. */
+static void compare(const uint32_t *rewritten, size_t count)
+{
+    for (unsigned bits = 0; bits < 16; bits++) {
+        uint8_t inputs[4], before[NAPSPRUCE_OUTPUTS], after[NAPSPRUCE_OUTPUTS];
+        for (unsigned i = 0; i < 4; i++)
+            inputs[i] = bits >> i & 1;
+        uint64_t outputs = accepted("evaluate", napspruce_evaluate(circuit, COUNT(circuit), inputs, 4, before, sizeof before));
+        expect("outputs", outputs == 1 && before[0] == (bits == 15));
+        expect("outputs again", outputs == accepted("evaluate", napspruce_evaluate(rewritten, count, inputs, 4, after, sizeof after)));
+        expect("rewritten circuit", memcmp(before, after, outputs) == 0);
+    }
+}
+
+int main(void)
+{
+    static uint32_t result[NAPSPRUCE_TABLE], work[NAPSPRUCE_TABLE];
+    static uint8_t verdicts[NAPSPRUCE_VERDICTS];
+
+    uint64_t pair = accepted("measure", napspruce_measure(circuit, COUNT(circuit)));
+    expect("judge", accepted("judge", napspruce_judge(rules, COUNT(rules), 1)) == 0);
+    expect("match", accepted("match", napspruce_match(circuit, COUNT(circuit), rules, COUNT(rules), 1, 8, 0)) == 0);
+
+    uint64_t r = accepted("rewrite", napspruce_rewrite(circuit, COUNT(circuit), rules, COUNT(rules), sites, COUNT(sites),
+                                                       result, COUNT(result), work, COUNT(work), verdicts, COUNT(verdicts)));
+    size_t count = 3 * (1 + result[1] + result[2]);
+    expect("old pair", NAPSPRUCE_OLD_DEPTH(r) == NAPSPRUCE_DEPTH(pair) && NAPSPRUCE_OLD_CRITICAL(r) == NAPSPRUCE_CRITICAL(pair));
+    compare(result, count);
+
+    const uint32_t told[] = {
+        5, NAPSPRUCE_OLD_DEPTH(r), NAPSPRUCE_OLD_CRITICAL(r),
+        6, NAPSPRUCE_NEW_DEPTH(r), NAPSPRUCE_NEW_CRITICAL(r),
+        7, sites[0], NAPSPRUCE_KEPT(r),
+        8, 1, verdicts[0],
+    };
+    print_table(result, count);
+    print_table(told, COUNT(told));
+
+    uint64_t refusal = napspruce_measure(circuit, COUNT(circuit) - 3);
+    expect("a line less is refused with 5, table 1", NAPSPRUCE_IS_REFUSAL(refusal) && refusal == 1000051);
+    return 0;
+}

@@ -1,0 +1,118 @@
+/* Napspruce: a proved depth rewriter for circuits of AND and XOR gates.
+ *
+ * A slice is a pointer and a count of elements: bytes of a text, numbers of a table. A count of 0 may come with any pointer, NULL too. A lent
+ * buffer, which is one that is not const, must overlap no other slice of the same call. Everything else may be handed over: each call
+ * tests what it relies on, takes no memory but the stack, and keeps nothing between calls.
+ *
+ * A text is lines of 19 bytes: three numbers from 0 to 999,999, right-justified in six columns each, and byte 10. A table holds the
+ * same numbers, three a line.
+ *
+ * Each call gives one number. It is a refusal, which leaves every lent buffer as it was, or it holds the results, which the macros take out;
+ * then a buffer has its results in front, and beyond them what it held before. A refusal is 1,000,000 + 10 x number + table. Its number:
+ *
+ *    1  a text is empty or not a multiple of 19 bytes, a table empty or not a multiple of 3 numbers; or the evaluator's input bytes are not
+ *       as many as the inputs
+ *    2  a lent buffer is shorter than needed
+ *    3  a line is not written as above, or a number to be written exceeds 999,999
+ *    4  a number of a head is outside its limits
+ *    5  there are more or fewer lines than the heads say
+ *    6  a gate's kind is not 1 (XOR) or 2 (AND), or a closing line is not 3, reference, 0
+ *    7  a reference is not below its gate, or a closing one is beyond its side or circuit
+ *    8  a hole, or a left gate but the last, is no operand of a later left gate
+ *    9  the register limit is not 1 to 1,024
+ *   10  the need, which is the most values held at once, exceeds the limit
+ *
+ * and its table: 1 circuit, 2 rules, 3 sites, or 0 where the fault lies in none of these, as in a text or table read or written by itself.
+ */
+#ifndef NAPSPRUCE_H
+#define NAPSPRUCE_H
+
+#include <stddef.h>
+#include <stdint.h>
+
+/* How many elements the lent buffers have at least: numbers of a circuit's table, verdicts, output bytes, numbers of a program, bytes of a
+ * listing. */
+#define NAPSPRUCE_TABLE 6915
+#define NAPSPRUCE_VERDICTS 512
+#define NAPSPRUCE_OUTPUTS 256
+#define NAPSPRUCE_PROGRAM 11272
+#define NAPSPRUCE_LISTING 53580
+
+/* Whether a call was refused, and why; each takes a call's result, a uint64_t. */
+#define NAPSPRUCE_IS_REFUSAL(r) ((r) / 1000 == 1000)
+#define NAPSPRUCE_REFUSAL_NUMBER(r) ((unsigned)((r) % 1000 / 10))
+#define NAPSPRUCE_REFUSAL_TABLE(r) ((unsigned)((r) % 10))
+
+/* The results of napspruce_measure. */
+#define NAPSPRUCE_DEPTH(r) ((uint32_t)((r) >> 32))
+#define NAPSPRUCE_CRITICAL(r) ((uint32_t)(r))
+
+/* The results of napspruce_rewrite. */
+#define NAPSPRUCE_OLD_DEPTH(r) ((uint32_t)((r) >> 48))
+#define NAPSPRUCE_OLD_CRITICAL(r) ((uint32_t)((r) >> 36 & 4095))
+#define NAPSPRUCE_NEW_DEPTH(r) ((uint32_t)((r) >> 24 & 4095))
+#define NAPSPRUCE_NEW_CRITICAL(r) ((uint32_t)((r) >> 12 & 4095))
+#define NAPSPRUCE_KEPT(r) ((uint32_t)((r) & 4095))
+
+/* The results of napspruce_translate. */
+#define NAPSPRUCE_NEED(r) ((uint32_t)((r) >> 32))
+#define NAPSPRUCE_INSTRUCTIONS(r) ((uint32_t)(r))
+
+#ifdef __cplusplus
+extern "C" {
+#endif
+
+/* Reads a text into `table`, of 3 numbers a line at least. Gives 0; the lines are text_len / 19.
+ * Refusals, in the order tested: 1, 3, 2, all with table 0. */
+uint64_t napspruce_read(const uint8_t *text, size_t text_len, uint32_t *table, size_t table_len);
+
+/* Writes a table into `text`, of 19 bytes a line at least. Gives 0; the lines are table_len / 3.
+ * Refusals: 1, 3, 2, all with table 0. */
+uint64_t napspruce_write(const uint32_t *table, size_t table_len, uint8_t *text, size_t text_len);
+
+/* Evaluates a circuit on input bytes, one an input (0 is 0, any other value 1), into `outputs`, one byte, 0 or 1, an output;
+ * NAPSPRUCE_OUTPUTS bytes at least. Gives the number of outputs.
+ * Refusals: 1 of the circuit; 2; 4 to 7 of the circuit; 1 with table 0, for the input bytes. */
+uint64_t napspruce_evaluate(const uint32_t *circuit, size_t circuit_len, const uint8_t *inputs, size_t inputs_len,
+                            uint8_t *outputs, size_t outputs_len);
+
+/* Gives the multiplicative depth D and the critical count N of a circuit.
+ * Refusals: 1, 4 to 7 of the circuit. */
+uint64_t napspruce_measure(const uint32_t *circuit, size_t circuit_len);
+
+/* Judges a rule by its number, from 1. Gives 1 if there is no such rule, 2 if it is not sound, else 0.
+ * Refusals: 1, 4 to 8 of the rules. */
+uint64_t napspruce_judge(const uint32_t *rules, size_t rules_len, uint32_t rule);
+
+/* Matches a rule at a gate of the trimmed circuit, with the operands of left gate i crossed where bit i of the mask is 1. Gives 1 if there
+ * is no such rule, 2 if it is not sound, 3 if the reference is not a gate, 4 if there is no match, else 0.
+ * Refusals: 1 of the circuit, 1 of the rules; 4 to 7 of the circuit; 4 to 8 of the rules. */
+uint64_t napspruce_match(const uint32_t *circuit, size_t circuit_len, const uint32_t *rules, size_t rules_len,
+                         uint32_t rule, uint32_t gate, uint32_t mask);
+
+/* Trims the circuit and rewrites it at the sites in order. Its table is then in `result`, with the numbers of its gates and outputs in
+ * result[1] and result[2]; and a byte a site in `verdicts`: 1 to 4 as above, 5 too many gates, 6 the pair (D, N) would not be lower, 0
+ * kept. `result` and `work` have NAPSPRUCE_TABLE numbers at least, `verdicts` NAPSPRUCE_VERDICTS bytes; what `work` holds
+ * after a success is not told. Gives the pair of the circuit handed over, the pair of the one handed back, and how many sites were kept.
+ * Refusals: 1 of the circuit, the rules, the sites; 2; 4 to 7 of the circuit; 4 to 8 of the rules; 4 and 5 of the sites. */
+uint64_t napspruce_rewrite(const uint32_t *circuit, size_t circuit_len, const uint32_t *rules, size_t rules_len,
+                           const uint32_t *sites, size_t sites_len, uint32_t *result, size_t result_len,
+                           uint32_t *work, size_t work_len, uint8_t *verdicts, size_t verdicts_len);
+
+/* Trims the circuit and translates it to a program for a machine of `limit` registers, into `program`, of NAPSPRUCE_PROGRAM numbers at least,
+ * four an instruction: (4, d, reference, 0) loads a constant or input into register d; (1, d, a, b) and (2, d, a, b) put the XOR or AND of
+ * registers a and b into d; (3, a, 0, 0) emits register a. Gives the need and the number of instructions.
+ * Refusals: 1 of the circuit; 2; 4 to 7 of the circuit; 9; 10. */
+uint64_t napspruce_translate(const uint32_t *circuit, size_t circuit_len, uint32_t limit, uint32_t *program, size_t program_len);
+
+/* Rewrites as napspruce_rewrite does, from texts to a text: into `listing`, of NAPSPRUCE_LISTING bytes at least, the lines of the circuit handed
+ * back; 5, old D, old N; 6, new D, new N; 7, sites, kept; and 8, site number, verdict for each site. Gives the listing's length.
+ * Refusals: 1, then 3, of the circuit, the rules, the sites; 2; 4 to 7 of the circuit; 4 to 8 of the rules; 4 and 5 of the sites. */
+uint64_t napspruce_listing(const uint8_t *circuit, size_t circuit_len, const uint8_t *rules, size_t rules_len,
+                           const uint8_t *sites, size_t sites_len, uint8_t *listing, size_t listing_len);
+
+#ifdef __cplusplus
+}
+#endif
+
+#endif
