@@ -69,6 +69,16 @@ static void compare(const uint32_t *rewritten, size_t count)
     }
 }
 
+/* The circuit for a machine of three registers; it needs so many. */
+static void translate(const uint32_t *table, size_t count)
+{
+    static uint32_t program[NAPSPRUCE_PROGRAM];
+    uint64_t r = accepted("translate", napspruce_translate(table, count, 3, program, COUNT(program)));
+    expect("need", NAPSPRUCE_NEED(r) == 3);
+    expect("four loads, three operations, an emit", NAPSPRUCE_INSTRUCTIONS(r) == 8);
+    expect("two registers are refused with 10", napspruce_translate(table, count, 2, program, COUNT(program)) == 1000100);
+}
+
 int main(void)
 {
     static uint32_t result[NAPSPRUCE_TABLE], work[NAPSPRUCE_TABLE];
@@ -83,6 +93,7 @@ int main(void)
     size_t count = 3 * (1 + result[1] + result[2]);
     expect("old pair", NAPSPRUCE_OLD_DEPTH(r) == NAPSPRUCE_DEPTH(pair) && NAPSPRUCE_OLD_CRITICAL(r) == NAPSPRUCE_CRITICAL(pair));
     compare(result, count);
+    translate(result, count);
 
     const uint32_t told[] = {
         5, NAPSPRUCE_OLD_DEPTH(r), NAPSPRUCE_OLD_CRITICAL(r),

@@ -1,0 +1,101 @@
+//! Depth and critical count.
+
+use super::circuit::{Circuit, MOST_REFERENCES};
+use super::gates::AND;
+use super::lines::{lines_of, Line};
+use super::refusal::{Answer, CIRCUIT};
+use super::rules::MOST_SIDE_GATES;
+
+/// D and N; the derived order is D first, then N.
+#[derive(Clone, Copy, Debug, PartialEq, Eq, PartialOrd, Ord)]
+pub struct Pair {
+    pub depth: u32,
+    pub critical: u32,
+}
+
+/// D and N of a circuit's table.
+pub fn measure(circuit: &[u32]) -> Answer<Pair> {
+    let circuit = Circuit::checked(lines_of(circuit, CIRCUIT)?)?;
+    Ok(Survey::blank().circuit(circuit))
+}
+
+/// Places of a survey: a circuit's references, and beyond them room for the
+/// gates of a rule's right side.
+pub const MOST_PLACES: usize = MOST_REFERENCES + MOST_SIDE_GATES;
+
+/// One number a place; no depth exceeds the number of gates.
+pub type Places = [u16; MOST_PLACES];
+
+/// Depths from below and reaches from above. Gates are handed over in blocks
+/// that lie one after another, so that one block can stand in for a gate
+/// without a new table.
+pub struct Survey {
+    pub depth: Places,
+    /// 0 if no output reaches the place, else 1 more than its above.
+    pub reach: Places,
+}
+
+impl Survey {
+    pub fn blank() -> Survey {
+        Survey {
+            depth: [0; MOST_PLACES],
+            reach: [0; MOST_PLACES],
+        }
+    }
+
+    /// Surveys a whole circuit.
+    pub fn circuit(&mut self, circuit: Circuit) -> Pair {
+        self.rise(circuit.gates, circuit.first_gate());
+        let depth = self.start_fall(circuit.outputs());
+        let critical = self.fall(circuit.gates, circuit.first_gate(), depth);
+        Pair { depth, critical }
+    }
+
+    /// Works out the depths of a block of gates, the first at place `base`,
+    /// once those of all their operands are known.
+    pub fn rise(&mut self, gates: &[Line], base: usize) {
+        for (own, &[kind, left, right]) in (base..).zip(gates) {
+            let larger = self.depth[left as usize].max(self.depth[right as usize]);
+            self.depth[own] = larger + u16::from(kind == AND);
+        }
+    }
+
+    /// Starts the reaches, all of them 0, at the outputs; gives D.
+    pub fn start_fall(&mut self, outputs: impl Iterator<Item = usize>) -> u32 {
+        let mut largest = 0;
+        for output in outputs {
+            self.reach[output] = 1;
+            largest = largest.max(self.depth[output]);
+        }
+        u32::from(largest)
+    }
+
+    /// Hands the reaches of a block of gates, the first at place `base`, down
+    /// to their operands, once those of all their users are known; gives the
+    /// number of critical gates in the block.
+    pub fn fall(&mut self, gates: &[Line], base: usize, depth: u32) -> u32 {
+        let mut critical = 0;
+        for (index, &[kind, left, right]) in gates.iter().enumerate().rev() {
+            let reach = self.reach[base + index];
+            if reach == 0 {
+                continue;
+            }
+            let is_and = kind == AND;
+            self.extend(left as usize, reach + u16::from(is_and));
+            self.extend(right as usize, reach + u16::from(is_and));
+            let path = u32::from(self.depth[base + index] + reach - 1);
+            critical += u32::from(is_and && path == depth);
+        }
+        critical
+    }
+
+    /// A place is reached at least that far.
+    pub fn extend(&mut self, place: usize, reach: u16) {
+        self.reach[place] = self.reach[place].max(reach);
+    }
+
+    /// Whether some output reaches the place.
+    pub fn is_live(&self, place: usize) -> bool {
+        self.reach[place] != 0
+    }
+}

@@ -1,0 +1,93 @@
+//! The workloads are what they are called, and agree on the whole.
+
+mod common;
+
+use common::{agree, old_bytes, old_numbers, slow_rewrite};
+
+use bench::jobs::{of_workloads, Buffers};
+use bench::plain::circuit::CIRCUIT_NUMBERS;
+use bench::plain::rewriting::rewrite;
+use bench::plain::sites::MOST_SITES;
+use bench::plain::translation::PROGRAM_NUMBERS;
+use bench::program::{is_refusal, Plain};
+use bench::workloads::{chain, mismatch, of_size, random, Workload, SIZES};
+
+/// The verdicts of a workload's sites.
+fn verdicts(workload: &Workload) -> Vec<u8> {
+    let [mut result, mut work] = [0; 2].map(|zero| vec![zero; CIRCUIT_NUMBERS]);
+    let mut verdicts = vec![u8::MAX; MOST_SITES];
+    let [circuit, rules, sites] = tables(workload);
+    rewrite(circuit, rules, sites, &mut result, &mut work, &mut verdicts)
+        .expect("a workload is well-formed");
+    verdicts
+}
+
+fn tables(workload: &Workload) -> [&[u32]; 3] {
+    workload.forms().map(|form| form.table.as_slice())
+}
+
+fn count(verdicts: &[u8], wanted: u8) -> usize {
+    verdicts
+        .iter()
+        .filter(|&&verdict| verdict == wanted)
+        .count()
+}
+
+#[test]
+fn every_job_succeeds() {
+    for gates in SIZES {
+        for job in of_workloads(&of_size(gates)) {
+            assert_eq!(job.gates, gates);
+            let result = job.run(&Plain, &mut Buffers::fresh());
+            assert!(!is_refusal(result), "{}: {result}", job.name);
+        }
+    }
+}
+
+#[test]
+fn random_sites_are_of_all_sorts() {
+    for gates in SIZES {
+        let verdicts = verdicts(&random(gates));
+        for verdict in [0, 2, 4, 6] {
+            assert!(
+                count(&verdicts, verdict) > 0,
+                "{gates} gates, verdict {verdict}"
+            );
+        }
+    }
+}
+
+#[test]
+fn chains_are_shortened_until_they_are_balanced() {
+    for gates in SIZES {
+        // A chain of n gates can be shortened to the depth of a balanced tree.
+        let shortest = gates.ilog2() as usize;
+        let kept = count(&verdicts(&chain(gates)), 0);
+        assert_eq!(kept, MOST_SITES.min(gates - 1 - shortest));
+    }
+}
+
+#[test]
+fn mismatching_sites_all_get_verdict_4() {
+    for gates in SIZES {
+        assert_eq!(verdicts(&mismatch(gates)), [4; MOST_SITES]);
+    }
+}
+
+#[test]
+fn rewriting_workloads_agrees() {
+    for workload in SIZES.iter().flat_map(|&gates| of_size(gates)) {
+        let [circuit, rules, sites] = tables(&workload);
+        let old = (old_numbers(PROGRAM_NUMBERS), old_bytes(MOST_SITES));
+        let mut work = old_numbers(CIRCUIT_NUMBERS);
+        let mut slow_work = work.clone();
+        let answer = agree(
+            old,
+            |(result, verdicts)| rewrite(circuit, rules, sites, result, &mut work, verdicts),
+            |(result, verdicts)| {
+                slow_rewrite(circuit, rules, sites, result, &mut slow_work, verdicts)
+            },
+        );
+        assert!(answer.is_ok());
+    }
+}
