@@ -25,10 +25,10 @@ fn gate_bit(kind: u32, x: u8, y: u8) -> u8 {
     if kind == 2 { x & y } else { x ^ y }
 }
 
-// No program has so many instructions that a level would stay.
 fn gate_level(kind: u32, a: u32, b: u32) -> u32 {
     let level = if a < b { b } else { a };
     if kind == 2 {
+        // Levels stay far below 4,096, as no circuit has so many gates: the test only spares a proof.
         if level < 4096 {
             return level + 1;
         }

@@ -1,10 +1,11 @@
 // Tries cases. Each is three files that arguments name, a circuit, rules and sites, of which any may be missing. The first is tried as a
-// text of lines, read and written back, and as a circuit, measured, evaluated and translated; the rules are judged; each site is matched; and
-// the circuit is rewritten at all sites in order.
+// text of lines, read and written back, and as a circuit, measured, evaluated and translated; the rules are judged; each site is matched;
+// the circuit is rewritten at all sites in order; and last comes what the program `depth_rewriter` prints for the three files.
+use files::print_files;
 use inspecting::print_evaluations;
 use inspecting::print_pair;
 use libc::STDOUT_FILENO;
-use loading::load;
+use loading::load_argument;
 use loading::read_file;
 use matching::print_judgements;
 use matching::print_matches;
@@ -41,50 +42,70 @@ fn print_recoding(text: &[u8]) {
 
 fn try_text(i: usize) {
     let mut text = [0u8; 262144];
-    let length = load(i, &mut text);
+    let length = load_argument(i, &mut text);
     print_recoding(&text[..length]);
 }
 
-// Measures, evaluates and translates a text that reads as a table, if only as one that is refused.
+// Measures, evaluates and translates.
 fn try_circuit(i: usize) {
     let mut table = [0u32; 10347];
     let count = read_file(i, &mut table);
-    if 0 < count {
-        io::write_all(STDOUT_FILENO, b", measure");
-        print_pair(&table[..count]);
-        io::write_all(STDOUT_FILENO, b", evaluate");
-        print_evaluations(&table[..count]);
-        io::write_all(STDOUT_FILENO, b", translate");
-        print_translations(&table[..count]);
-        print_short_program(&table[..count]);
-    }
+    io::write_all(STDOUT_FILENO, b", measure");
+    print_pair(&table[..count]);
+    io::write_all(STDOUT_FILENO, b", evaluate");
+    print_evaluations(&table[..count]);
+    io::write_all(STDOUT_FILENO, b", translate");
+    print_translations(&table[..count]);
+    print_short_program(&table[..count]);
 }
 
-// Judges the rules, if there are any, matches the sites, and rewrites the circuit at them.
+// Judges the rules, matches the sites, and rewrites the circuit at them.
 fn try_sites(i: usize, j: usize, k: usize) {
+    let mut circuit = [0u32; 6915];
+    let gates = read_file(i, &mut circuit);
     let mut rules = [0u32; 6915];
     let patterns = read_file(j, &mut rules);
-    if 0 < patterns {
-        let mut circuit = [0u32; 6915];
-        let gates = read_file(i, &mut circuit);
-        let mut sites = [0u32; 1539];
-        let places = read_file(k, &mut sites);
-        io::write_all(STDOUT_FILENO, b", judge");
-        print_judgements(&rules[..patterns]);
-        io::write_all(STDOUT_FILENO, b", match");
-        print_matches(&circuit[..gates], &rules[..patterns], &sites[..places]);
-        io::write_all(STDOUT_FILENO, b", rewrite");
-        print_rewriting(&circuit[..gates], &rules[..patterns], &sites[..places]);
-    }
+    let mut sites = [0u32; 1539];
+    let places = read_file(k, &mut sites);
+    io::write_all(STDOUT_FILENO, b", judge");
+    print_judgements(&rules[..patterns]);
+    io::write_all(STDOUT_FILENO, b", match");
+    print_matches(&circuit[..gates], &rules[..patterns], &sites[..places]);
+    io::write_all(STDOUT_FILENO, b", rewrite");
+    print_rewriting(&circuit[..gates], &rules[..patterns], &sites[..places]);
+}
+
+// The very code that the program `depth_rewriter` runs, but for the names.
+fn try_files(i: usize, j: usize, k: usize) {
+    let mut circuit = io::buffer();
+    let mut rules = io::buffer();
+    let mut sites = io::buffer();
+    let circuit_length = os::arg(i, &mut circuit);
+    let rules_length = os::arg(j, &mut rules);
+    let sites_length = os::arg(k, &mut sites);
+    print_files(
+        &circuit[..circuit_length],
+        &rules[..rules_length],
+        &sites[..sites_length],
+    );
+}
+
+fn print_names(i: usize, j: usize, k: usize) {
+    print_name(i);
+    io::write_all(STDOUT_FILENO, b" ");
+    print_name(j);
+    io::write_all(STDOUT_FILENO, b" ");
+    print_name(k);
 }
 
 // The case of the files that arguments i, j and k name.
 fn try_case(i: usize, j: usize, k: usize) {
-    print_name(i);
+    print_names(i, j, k);
     try_text(i);
     try_circuit(i);
     try_sites(i, j, k);
-    io::write_all(STDOUT_FILENO, b"\n");
+    io::write_all(STDOUT_FILENO, b", listing\n");
+    try_files(i, j, k);
 }
 
 fn main() {

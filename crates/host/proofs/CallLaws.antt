@@ -6,7 +6,7 @@ use mathlib.Core.List.{List, [], _∷_}
 use Prim.Native.Nat.{ℕ, _+_, _*_, _/_, _≤_, _<_}
 use native.Mathlib.Decide.{decLt}
 use native.Mathlib.Omega.{arith}
-use lib.Dec.{eqb}
+use lib.Dec.{eqb, ltb}
 use lib.ListN.{length, take, drop, getD, replicate, length-append, length-replicate}
 use lib.Seq.{length-take-le, take-all}
 use borrow.Author.Tests.{eq-eqb, ne-eqb, eqb-true, lt-ltb, le-ltb}
@@ -27,8 +27,8 @@ use Rattle.host.specs.declared.numbers.Summary.{Summary}
 use Rattle.host.specs.Listing.{listingLines, summaryOf, listingTable, listingText}
 use Rattle.host.specs.ListingCall.{maxListing, textRefusal, listTables, listTexts, putting, listingOutcome}
 use Rattle.host.specs.Front.{maxCircuitLines, maxRulesLines, maxSitesLines, front}
-use Rattle.host.specs.Theorems.{FrontIsListedAlike}
-use Rattle.host.proofs.TextLaws.{whole-passes, accepted-text, text-length}
+use Rattle.host.specs.Theorems.{FrontIsListedAlike, CutIsListedAlike}
+use Rattle.host.proofs.TextLaws.{whole-passes, accepted-text, cut-accepted, cut-read, text-length}
 use Rattle.host.proofs.FrontLaws.{Alike, alike-number, circuit-alike, rules-alike, sites-alike}
 use Rattle.host.proofs.ListingLaws.{listing-valid, circuit-length}
 use Rattle.host.proofs.WriteLaws.{valid-table}
@@ -181,6 +181,23 @@ fronts-listed circuit rules sites buffer hc hr hs c r s ec er es =
     ap (λ x. putting x buffer)
     (ap₂ (λ x y. listTables x y s) ec er ∙ ap (listTables (front maxCircuitLines (readText circuit)) (front maxRulesLines (readText rules))) es
     ∙ front-is-listed-alike (readText circuit) (readText rules) (readText sites) (text-whole circuit hc) (text-whole rules hr) (text-whole sites hs))
+
+pub cut-is-listed-alike : CutIsListedAlike
+unfolding listTexts
+cut-is-listed-alike circuit rules sites room hc hr hs =
+    rw (
+      cut-accepted maxCircuitLines circuit hc,
+      cut-accepted maxRulesLines rules hr,
+      cut-accepted maxSitesLines sites hs,
+      cut-read maxCircuitLines circuit hc,
+      cut-read maxRulesLines rules hr,
+      cut-read maxSitesLines sites hs,
+      hc,
+      hr,
+      hs,
+    )
+    (ap (λ x. first (ltb room maxListing) (refused 2 noTable) x)
+    (front-is-listed-alike (readText circuit) (readText rules) (readText sites) (text-whole circuit hc) (text-whole rules hr) (text-whole sites hs)))
 
 module _ (circuit rules sites buffer : List ℕ) where
   pub listing-circuit-refused : (n : ℕ) → n ≡ textRefusal circuit → (n ≡ 0 → ⊥) → leaving (refused n circuitTable) buffer ≡ listingOutcome circuit rules sites buffer

@@ -12,12 +12,13 @@ use Rattle.lists.specs.Records.{allRecords}
 use Rattle.lists.proofs.First.{first-either}
 use Rattle.lines.specs.Text.{isPartial}
 use Rattle.lines.specs.Line.{isLine}
-use Rattle.lines.specs.Refusal.{refused}
+use Rattle.lines.specs.Refusal.{Result, refused}
+use Rattle.lines.specs.Calls.{validation}
 use Rattle.circuit.specs.Refusal.{headInLimits, linesAsHeadSays, gateKindsOk, closingKindsOk, operandsOk, closingReferencesOk, refusal}
 use Rattle.rules.specs.RuleTable.{ruleCount, rulesFrom, nextRule}
 use Rattle.rules.specs.RuleRefusal.{rulesHeadInLimits, ruleInLimits, walk, walkFromTop, rulesKindsOk, rulesReferencesOk, rulesUsesOk, rulesRefusal}
 use Rattle.rules.specs.SiteTable.{sitesHeadInLimits, sitesAsHeadSays, sitesRefusal}
-use Rattle.host.specs.ListingCall.{textRefusal}
+use Rattle.host.specs.ListingCall.{refusalNumber, textRefusal}
 use Rattle.host.specs.Limits.{Within}
 
 -- what holds of each answer under its test holds of the one given
@@ -30,11 +31,14 @@ first-by P false p q = q refl
 abbrev Known : ℕ → Type 0
 Known n = n ≤ 10
 
+abbrev KnownAnswer : Result → Type 0
+KnownAnswer r = Known (refusalNumber r)
+
 pub text-known : (text : List ℕ) → Known (textRefusal text)
-unfolding textRefusal
+unfolding textRefusal validation
 text-known text =
-    first-either Known (isPartial 19 text) (omega arith)
-    (first-either Known (not (allRecords isLine 19 (length text / 19) text)) (omega arith) (omega arith))
+    first-either KnownAnswer (isPartial 19 text) (omega arith)
+    (first-either KnownAnswer (not (allRecords isLine 19 (length text / 19) text)) (omega arith) (omega arith))
 
 pub circuit-known : (t : List ℕ) → Known (refusal t)
 unfolding refusal

@@ -4,23 +4,24 @@ use mathlib.Core.Bool.{Bool, true, false, not}
 use mathlib.Core.List.{List, [], _∷_, _++_}
 use Prim.Native.Nat.{ℕ, _+_, _*_, _/_, _%_, _≤_, _<_}
 use native.Mathlib.Nat.{mul-div-right, mul-mod-right, mul-pos}
+use native.Mathlib.Decide.{decLt}
 use native.Mathlib.Omega.{arith}
 use lib.Dec.{ltb}
 use lib.ListN.{length, take, drop, length-drop, take-append-drop, List·getD-append}
 use lib.Seq.{length-take-le, take-all, take-append-le, drop-append-le}
-use borrow.Author.Tests.{eq-eqb, ne-eqb, ltb-true, ltb-false, not-false}
+use borrow.Author.Tests.{eq-eqb, ne-eqb, ltb-true, ltb-false}
 use Rattle.lists.specs.First.{first}
 use Rattle.lists.specs.Records.{mapRecords, allRecords}
 use Rattle.lists.proofs.Records.{map-length}
 use Rattle.lines.specs.Number.{readNumber}
 use Rattle.lines.specs.Line.{isLine, readLine}
 use Rattle.lines.specs.Text.{isPartial, readText}
-use Rattle.lines.specs.Refusal.{Result, refused, gives, Outcome, leaving}
+use Rattle.lines.specs.Refusal.{Result, refused, gives, noTable, Outcome, leaving}
 use Rattle.lines.specs.Calls.{over, validation, validating, reading}
 use Rattle.lines.proofs.LineLaws.{row-length}
-use Rattle.lines.proofs.CallLaws.{Valid, whole-is, valid-is, conversion-done}
-use Rattle.circuit.proofs.RefusalLaws.{passed}
-use Rattle.host.specs.ListingCall.{textRefusal}
+use Rattle.lines.proofs.CallLaws.{Valid, whole-is, conversion-done}
+use Rattle.host.specs.ListingCall.{refusalNumber, textRefusal}
+use Rattle.host.specs.Front.{front, cut}
 use Rattle.host.proofs.RecordLaws.{all-fewer, all-append, map-append, map-fewer}
 
 -- whole lines, at least one
@@ -34,27 +35,29 @@ whole-passes size n t p l s =
 
 module _ (text : List ℕ) where
   pub accepted-text : textRefusal text ≡ 0 → Valid 19 isLine text (length text / 19)
-  unfolding textRefusal
-  accepted-text h =
-      let a = passed (isPartial 19 text) 0 _ h in
-      let b = passed (not (allRecords isLine 19 (length text / 19) text)) 2 0 (a .1) in
-      record { whole = whole-is 19 text (a .0); not-partial = a .0; right = not-false _ (b .0) }
+  unfolding textRefusal validation
+  accepted-text h = go (isPartial 19 text) (allRecords isLine 19 (length text / 19) text) refl refl h
+    where
+      go : (p a : Bool) → isPartial 19 text ≡ p → allRecords isLine 19 (length text / 19) text ≡ a
+          → refusalNumber (first p (refused 1 noTable) (first (not a) (refused 3 noTable) (gives (length text / 19 ∷ [])))) ≡ 0
+          → Valid 19 isLine text (length text / 19)
+      go true a e f h = absurd (omega (arith, h))
+      go false false e f h = absurd (omega (arith, h))
+      go false true e f h = record { whole = whole-is 19 text e; not-partial = e; right = f }
 
-  pub text-valid : (n : ℕ) → validating text ≡ gives (n ∷ []) → 0 ≡ textRefusal text
-  unfolding textRefusal
-  text-valid n e =
-      let v = valid-is 19 isLine text n e in
+  pub valid-text : (n : ℕ) → Valid 19 isLine text n → textRefusal text ≡ 0
+  unfolding textRefusal validation
+  valid-text n v =
       let right : allRecords isLine 19 (length text / 19) text ≡ true = rw (← v .whole .count) (v .right) in
       rw (v .not-partial, right)
 
+  pub text-valid : (n : ℕ) → validating text ≡ gives (n ∷ []) → 0 ≡ textRefusal text
+  unfolding textRefusal
+  text-valid n e = sym (ap refusalNumber e)
+
   pub text-refused : (k t : ℕ) → validating text ≡ refused k t → k ≡ textRefusal text
-  unfolding textRefusal validation
-  text-refused k t e = go (isPartial 19 text) (allRecords isLine 19 (length text / 19) text) e
-    where
-      go : (p a : Bool) → first p (refused 1 0) (first (not a) (refused 3 0) (gives (length text / 19 ∷ []))) ≡ refused k t → k ≡ first p 1 (first (not a) 3 0)
-      go true a e = cc
-      go false false e = cc
-      go false true e = let z : _≡_ {A = ℕ} 0 1 = cc in absurd (omega arith)
+  unfolding textRefusal
+  text-refused k t e = sym (ap refusalNumber e)
 
 -- ---- a line looks no further than its end
 
@@ -117,6 +120,32 @@ module _ (text : List ℕ) (n : ℕ) (v : Valid 19 isLine text n) (k : ℕ) (som
 pub text-length : (text : List ℕ) (n : ℕ) → Valid 19 isLine text n → length (readText text) ≡ 3 * n
 unfolding readText
 text-length text n v = map-length readLine 19 3 row-length (length text / 19) text ∙ ap (λ j. 3 * j) (sym (v .whole .count))
+
+-- ---- a text that is cut
+
+module _ (most : ℕ) (text : List ℕ) (h : textRefusal text ≡ 0) where
+  valid-whole : Valid 19 isLine text (length text / 19)
+  valid-whole = accepted-text text h
+
+  uncut : length text / 19 < most + 1 → cut most text ≡ text
+  uncut l = take-all (19 * (most + 1)) text (omega (arith, valid-whole .whole .long))
+
+  pub cut-accepted : textRefusal (cut most text) ≡ 0
+  cut-accepted =
+      elim (decLt (length text / 19) (most + 1)) [
+        | yes l ↦ ap textRefusal (uncut l) ∙ h
+        | no l ↦ valid-text (cut most text) (most + 1) (front-valid text _ valid-whole (most + 1) (omega arith) (omega arith))
+      ]
+
+  pub cut-read : readText (cut most text) ≡ front most (readText text)
+  unfolding readText
+  cut-read =
+      elim (decLt (length text / 19) (most + 1)) [
+        | yes l ↦ ap readText (uncut l) ∙ sym (take-all (3 * (most + 1)) (readText text) (omega (arith, text-length text _ valid-whole)))
+        | no l ↦
+          let v = front-valid text _ valid-whole (most + 1) (omega arith) (omega arith) in
+          ap (λ j. mapRecords readLine 19 j (cut most text)) (sym (v .whole .count)) ∙ front-numbers text _ valid-whole (most + 1) (omega arith) (omega arith)
+      ]
 
 -- ---- reading at most `most` lines
 

@@ -1,5 +1,5 @@
--- The front of a table: one line more than any table has that is not refused. A longer text is tested whole for refusal 3, but no more than
--- this is read of it: the rest does not change what is refused (`FrontIsListedAlike` in Theorems.antt).
+-- The front of a text or table: one line more than any table has that is not refused. A longer text is tested whole for refusal 3, but no
+-- more than this is read of it: the rest does not change what is refused (`CutIsListedAlike` in Theorems.antt).
 use Prim.Native.Nat.{ℕ, _+_, _*_}
 use mathlib.Core.List.{List}
 use lib.ListN.{take}
@@ -20,3 +20,7 @@ maxSitesLines = 1 + maxSites
 -- the first lines of a table, at most one more than `most`
 abbrev pub front : (most : ℕ) → List ℕ → List ℕ
 front most t = take (3 * (most + 1)) t
+
+-- the same of a text
+abbrev pub cut : (most : ℕ) → List ℕ → List ℕ
+cut most text = take (19 * (most + 1)) text

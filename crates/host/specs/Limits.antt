@@ -15,7 +15,7 @@ EachWithin [] (v ∷ vs) = ⊥
 EachWithin (l ∷ ls) [] = ⊥
 EachWithin (l ∷ ls) (v ∷ vs) = (v ≤ l) × EachWithin ls vs
 
--- 01, Refusals, 1: ten numbers, and tables 0 to 3; or a success's numbers within their limits
+-- 01, Refusals: ten numbers, and tables 0 to 3; or a success's numbers within their limits
 abbrev pub Within : (limits : List ℕ) → Result → Type 0
 Within limits (refused number table) = (1 ≤ number) × (number ≤ 10) × (table ≤ 3)
 Within limits (gives values) = EachWithin limits values

@@ -1,15 +1,13 @@
 -- 01, Register program, 16: the listing for three texts, or the refusal, and what a lent buffer then holds.
-use Prim.Native.Nat.{ℕ, _+_, _*_, _/_}
+use Prim.Native.Nat.{ℕ, _+_, _*_}
 use mathlib.Core.Bool.{not}
 use mathlib.Core.List.{List, [], _∷_}
 use lib.Dec.{eqb, ltb}
 use lib.ListN.{length}
 use Rattle.lists.specs.First.{first}
-use Rattle.lists.specs.Records.{allRecords}
-use Rattle.lines.specs.Line.{isLine}
-use Rattle.lines.specs.Text.{isPartial, readText}
+use Rattle.lines.specs.Text.{readText}
 use Rattle.lines.specs.Refusal.{Result, refused, gives, noTable, Outcome, leaving}
-use Rattle.lines.specs.Calls.{over}
+use Rattle.lines.specs.Calls.{over, validating}
 use Rattle.circuit.specs.Circuit.{maxGates, maxOutputs}
 use Rattle.circuit.specs.Refusal.{refusal, circuitTable}
 use Rattle.rules.specs.RuleRefusal.{rulesRefusal, rulesTable}
@@ -27,14 +25,17 @@ paperValues (Refused r) = refused (r .number) (r .table)
 abbrev pub maxListing : ℕ
 maxListing = 19 * (1 + maxGates + maxOutputs + 3 + maxSites)
 
--- 01, refusals 1 and 3, of a text of any length; 0 if neither applies
-unfoldable pub textRefusal : (text : List ℕ) → ℕ
-textRefusal text =
-    first (isPartial 19 text) 1
-    (first (not (allRecords isLine 19 (length text / 19) text)) 3
-    0)
+-- a refusal's number; 0 for a success
+abbrev pub refusalNumber : Result → ℕ
+refusalNumber (refused number table) = number
+refusalNumber (gives values) = 0
 
--- 01, Refusals, 2: 4 to 7 of the circuit's table; 4 to 8 of the rules'; 4 and 5 of the sites'. Else the listing's bytes.
+-- 01, refusals 1 and 3, of a text of any length, as the line layer tests them; 0 if neither applies
+unfoldable pub textRefusal : (text : List ℕ) → ℕ
+textRefusal text = refusalNumber (validating text)
+
+-- 01, Refusals, 2: 4 to 7 of the circuit's table; 4 to 8 of the rules'; 4 and 5 of the sites'. Else the listing's bytes. (These test 1 too, which
+-- tables that are read of a text never get.)
 unfoldable pub listTables : (circuit rules sites : List ℕ) → Result
 listTables circuit rules sites =
     first (not (eqb (refusal circuit) 0)) (refused (refusal circuit) circuitTable)

@@ -17,9 +17,9 @@ use Rattle.rewriting.specs.SafeRun.{SafeRun}
 use Rattle.rewriting.specs.RewriteCall.{rewriting}
 use Rattle.translator.specs.TranslateCall.{translating}
 use Rattle.host.specs.Listing.{listingTable, listingText}
-use Rattle.host.specs.ListingCall.{maxListing, listTables, listingOutcome}
+use Rattle.host.specs.ListingCall.{maxListing, textRefusal, listTables, listTexts, listingOutcome}
 use Rattle.host.specs.Printed.{refusalKind, printed}
-use Rattle.host.specs.Front.{maxCircuitLines, maxRulesLines, maxSitesLines, front}
+use Rattle.host.specs.Front.{maxCircuitLines, maxRulesLines, maxSitesLines, front, cut}
 use Rattle.host.specs.Packing.{pack, unpack, packLines, unpackLines, packOne, unpackOne, packPair, unpackPair, packTranslation, unpackTranslation, packRewriting, unpackRewriting}
 use Rattle.host.specs.Limits.{Within, evaluateLimits, measureLimits, judgeLimits, matchLimits, rewriteLimits, translateLimits, listingLimits}
 
@@ -31,13 +31,19 @@ FrontIsListedAlike =
     (circuit rules sites : List ℕ) → isPartial 3 circuit ≡ false → isPartial 3 rules ≡ false → isPartial 3 sites ≡ false
     → listTables (front maxCircuitLines circuit) (front maxRulesLines rules) (front maxSitesLines sites) ≡ listTables circuit rules sites
 
+-- So three texts of any length in which every line is well written may be cut there: they are listed, or refused, as before.
+abbrev pub CutIsListedAlike : Type 0
+CutIsListedAlike =
+    (circuit rules sites : List ℕ) (room : ℕ) → textRefusal circuit ≡ 0 → textRefusal rules ≡ 0 → textRefusal sites ≡ 0
+    → listTexts (cut maxCircuitLines circuit) (cut maxRulesLines rules) (cut maxSitesLines sites) room ≡ listTexts circuit rules sites room
+
 -- What is listed comes of tables that are not refused, and of a safe run over them.
 abbrev pub ListedIsSafe : Type 0
 ListedIsSafe =
     (circuit rules sites bytes : List ℕ) → listTables circuit rules sites ≡ gives bytes
     → WellFormed circuit × WellFormedRules rules × WellFormedSites sites × (bytes ≡ listingText circuit rules sites) × SafeRun circuit rules sites
 
--- It is a well-written text, from which the listing's numbers are read again, and as long as 53,580 bytes at most.
+-- It is a well-written text, from which the listing's numbers are read again, and is at most 53,580 bytes long.
 abbrev pub ListedIsText : Type 0
 ListedIsText =
     (circuit rules sites bytes : List ℕ) → listTables circuit rules sites ≡ gives bytes

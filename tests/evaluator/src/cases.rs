@@ -1,11 +1,15 @@
-//! What the test program `cases` must print: a line a case, of three files each.
+//! What the test program `cases` must print: for each case, of three files, a
+//! line with what the calls give, and then what the program gives.
 
 use std::fmt::Display;
+use std::path::Path;
+use std::{fs, io};
 
 use crate::circuit::MOST_OUTPUTS;
 use crate::depth::measure;
 use crate::evaluation::evaluate;
 use crate::lines;
+use crate::listing::program_output;
 use crate::machine::{run, Value, INSTRUCTION_NUMBERS};
 use crate::matching::match_site;
 use crate::refusal::Answer;
@@ -21,21 +25,35 @@ const SITES_ROOM: usize = 1_539;
 /// The register limits that every circuit is translated with.
 const LIMITS: [u32; 9] = [0, 1, 2, 3, 4, 6, 10, 1024, 1025];
 
-/// The line of a case by the name of its first file and the three texts.
-pub fn case_line(name: &str, circuit: &[u8], rules: &[u8], sites: &[u8]) -> String {
-    let mut line = format!("{name}: {}", recoding(circuit));
-    let table = numbers(circuit, CIRCUIT_ROOM);
-    if !table.is_empty() {
-        line += &inspection(&table);
-    }
+/// What is printed for each case of a folder, whose `args` name three files of
+/// its `data` a case; one that can't be opened is empty.
+pub fn printed(folder: &Path) -> io::Result<Vec<String>> {
+    let args = fs::read_to_string(folder.join("args"))?;
+    let names: Vec<&str> = args.lines().collect();
+    let text = |name: &str| fs::read(folder.join("data").join(name)).unwrap_or_default();
+    let case = |names: &[&str]| {
+        let [circuit, rules, sites] = [0, 1, 2].map(|file| text(names[file]));
+        let calls = calls(&circuit, &rules, &sites);
+        let listing = program_output(&circuit, &rules, &sites);
+        let listing = String::from_utf8_lossy(&listing);
+        format!("{}: {calls}, listing\n{listing}", names.join(" "))
+    };
+    Ok(names.chunks_exact(3).map(case).collect())
+}
+
+/// What the calls give for three texts.
+fn calls(circuit: &[u8], rules: &[u8], sites: &[u8]) -> String {
+    let gates = numbers(circuit, TABLE_ROOM);
     let patterns = numbers(rules, TABLE_ROOM);
-    if !patterns.is_empty() {
-        let places = numbers(sites, SITES_ROOM);
-        line += &judgements(&patterns);
-        line += &matches(&numbers(circuit, TABLE_ROOM), &patterns, &places);
-        line += &rewriting(&numbers(circuit, TABLE_ROOM), &patterns, &places);
-    }
-    line
+    let places = numbers(sites, SITES_ROOM);
+    [
+        recoding(circuit),
+        inspection(&numbers(circuit, CIRCUIT_ROOM)),
+        judgements(&patterns),
+        matches(&gates, &patterns, &places),
+        rewriting(&gates, &patterns, &places),
+    ]
+    .concat()
 }
 
 /// The numbers of a text that reads into a table of that room; none if it is refused.
@@ -44,6 +62,11 @@ fn numbers(text: &[u8], room: usize) -> Vec<u32> {
     let lines = lines::read(text, &mut table).unwrap_or(0);
     table.truncate(3 * lines);
     table
+}
+
+/// The count that a table's head begins with, up to the most that is allowed.
+fn head_count(table: &[u32], most: u32) -> u32 {
+    table.first().map_or(0, |&count| count.min(most))
 }
 
 /// Words for an answer: its values, each after a blank, or the refusal.
@@ -69,7 +92,7 @@ fn recoding(text: &[u8]) -> String {
 /// A circuit measured, evaluated on patterns of bytes, and translated.
 fn inspection(table: &[u32]) -> String {
     let pair = measure(table).map(|pair| vec![format!("D {} N {}", pair.depth, pair.critical)]);
-    let inputs = table[0].min(512) as usize;
+    let inputs = head_count(table, 512) as usize;
     let mut line = format!(", measure{}, evaluate", words(pair));
     for (pattern, more) in [(0, 0), (1, 0), (2, 0), (3, 0), (0, 1)] {
         line += &evaluation(table, pattern, inputs + more, MOST_OUTPUTS as usize);
@@ -119,7 +142,7 @@ fn evaluation(table: &[u32], pattern: usize, inputs: usize, room: usize) -> Stri
 
 /// Rule 0, each rule, the number behind the last, and the largest number.
 fn judgements(rules: &[u32]) -> String {
-    let last = rules[0].min(64) + 1;
+    let last = head_count(rules, 64) + 1;
     let verdict = |rule| words(judge(rules, rule).map(|verdict| vec![verdict]));
     let all: String = (0..=last).chain([u32::MAX]).map(verdict).collect();
     format!(", judge{all}")

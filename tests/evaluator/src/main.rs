@@ -5,7 +5,7 @@ use std::path::Path;
 use std::process::ExitCode;
 use std::{env, fs};
 
-use evaluator::cases::case_line;
+use evaluator::cases;
 use evaluator::circuit::MOST_OUTPUTS;
 use evaluator::depth::measure;
 use evaluator::evaluation::evaluate;
@@ -59,7 +59,10 @@ fn answer(words: &[&str]) -> Option<io::Result<Vec<u8>>> {
             values(evaluate_file(circuit, &bytes?))
         }
         ["translate", circuit, limit] => values(translate_file(circuit, number(limit)?)),
-        ["cases", folder] => return Some(cases(Path::new(folder))),
+        ["cases", folder] => {
+            let printed = cases::printed(Path::new(folder));
+            return Some(printed.map(|cases| cases.concat().into_bytes()));
+        }
         ["random", seed, count, directory] => {
             let written = write_cases(number(seed)?, number(count)?, Path::new(directory));
             return Some(written.map(|()| Vec::new()));
@@ -123,19 +126,6 @@ fn translate_file(circuit: &str, limit: u32) -> Answer<Vec<u64>> {
     let mut program = [0; PROGRAM_NUMBERS];
     let translated = translate(&table(circuit, CIRCUIT)?, limit, &mut program)?;
     Ok(vec![translated.instructions as u64, translated.need as u64])
-}
-
-/// What the test program prints for the names in a folder's `args`, three a case, of files in its `data`.
-fn cases(folder: &Path) -> io::Result<Vec<u8>> {
-    let args = fs::read_to_string(folder.join("args"))?;
-    let names: Vec<&str> = args.lines().collect();
-    let text = |name: &str| fs::read(folder.join("data").join(name)).unwrap_or_default();
-    let mut printed = String::new();
-    for case in names.chunks_exact(3) {
-        printed += &case_line(case[0], &text(case[0]), &text(case[1]), &text(case[2]));
-        printed += "\n";
-    }
-    Ok(printed.into_bytes())
 }
 
 /// Writes cases 1 to `count` of a seed into directories 0001, 0002 and so on.

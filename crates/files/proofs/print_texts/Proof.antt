@@ -3,8 +3,8 @@ use lib.ListN.{replicate}
 use borrow.Author.Needs.{needs}
 use Rattle.host.specs.Printed.{printed}
 use Rattle.host.proofs.CallLaws.{numbers-fit, numbers-count}
-use Rattle.depth_rewriter.proofs.print_texts.Statement.{statement}
-use Rattle.depth_rewriter.proofs.print_texts.Tie as tie
+use Rattle.files.proofs.print_texts.Statement.{statement}
+use Rattle.files.proofs.print_texts.Tie as tie
 
 print-listing-requires : tie.Need-print-listing-requires
 print-listing-requires c κs = search needs
