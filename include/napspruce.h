@@ -1,11 +1,11 @@
 /* Napspruce: a proved depth rewriter for circuits of AND and XOR gates.
  *
- * A slice is a pointer and a count of elements: bytes of a text, numbers of a table. A count of 0 may come with any pointer, NULL too. A lent
- * buffer, which is one that is not const, must overlap no other slice of the same call. Everything else may be handed over: each call
- * tests what it relies on, takes no memory but the stack, and keeps nothing between calls.
+ * A slice is an aligned pointer and a count of the elements behind it: bytes of a text, numbers of a table. A count of 0 may come with any pointer,
+ * NULL too. A lent buffer, which is one that is not const, must overlap no other slice of the same call. Nothing is asked of the contents: each
+ * call tests what it relies on, takes no memory but the stack, and keeps nothing between calls.
  *
- * A text is lines of 19 bytes: three numbers from 0 to 999,999, right-justified in six columns each, and byte 10. A table holds the
- * same numbers, three a line.
+ * A text is lines of 19 bytes: three numbers from 0 to 999,999, each right-justified in six columns with blanks before it and no leading zero, and
+ * byte 10. A table holds the same numbers, three a line. README.md, Files, says what the lines of circuits, rules and sites are.
  *
  * Each call gives one number. It is a refusal, which leaves every lent buffer as it was, or it holds the results, which the macros take out;
  * then a buffer has its results in front, and beyond them what it held before. A refusal is 1,000,000 + 10 x number + table. Its number:
@@ -22,7 +22,8 @@
  *    9  the register limit is not 1 to 1,024
  *   10  the need, which is the most values held at once, exceeds the limit
  *
- * and its table: 1 circuit, 2 rules, 3 sites, or 0 where the fault lies in none of these, as in a text or table read or written by itself.
+ * and its table: 1 circuit, 2 rules, 3 sites, or 0 where the fault lies in none of these: 2, 9, 10, the evaluator's bytes, and a text or table
+ * read or written by itself.
  */
 #ifndef NAPSPRUCE_H
 #define NAPSPRUCE_H
@@ -76,7 +77,7 @@ uint64_t napspruce_write(const uint32_t *table, size_t table_len, uint8_t *text,
 uint64_t napspruce_evaluate(const uint32_t *circuit, size_t circuit_len, const uint8_t *inputs, size_t inputs_len,
                             uint8_t *outputs, size_t outputs_len);
 
-/* Gives the multiplicative depth D and the critical count N of a circuit.
+/* Gives the multiplicative depth D of a circuit and its critical count N, the number of live AND gates that lie on a path with D of them.
  * Refusals: 1, 4 to 7 of the circuit. */
 uint64_t napspruce_measure(const uint32_t *circuit, size_t circuit_len);
 
@@ -85,7 +86,8 @@ uint64_t napspruce_measure(const uint32_t *circuit, size_t circuit_len);
 uint64_t napspruce_judge(const uint32_t *rules, size_t rules_len, uint32_t rule);
 
 /* Matches a rule at a gate of the trimmed circuit, with the operands of left gate i crossed where bit i of the mask is 1. Gives 1 if there
- * is no such rule, 2 if it is not sound, 3 if the reference is not a gate, 4 if there is no match, else 0.
+ * is no such rule, 2 if it is not sound, 3 if the reference is not a gate, 4 if there is no match or the mask has a bit beyond the left gates,
+ * else 0.
  * Refusals: 1 of the circuit, 1 of the rules; 4 to 7 of the circuit; 4 to 8 of the rules. */
 uint64_t napspruce_match(const uint32_t *circuit, size_t circuit_len, const uint32_t *rules, size_t rules_len,
                          uint32_t rule, uint32_t gate, uint32_t mask);

@@ -143,8 +143,8 @@ module _ (most : ℕ) (text : List ℕ) (h : textRefusal text ≡ 0) where
       elim (decLt (length text / 19) (most + 1)) [
         | yes l ↦ ap readText (uncut l) ∙ sym (take-all (3 * (most + 1)) (readText text) (omega (arith, text-length text _ valid-whole)))
         | no l ↦
-          let v = front-valid text _ valid-whole (most + 1) (omega arith) (omega arith) in
-          ap (λ j. mapRecords readLine 19 j (cut most text)) (sym (v .whole .count)) ∙ front-numbers text _ valid-whole (most + 1) (omega arith) (omega arith)
+            let v = front-valid text _ valid-whole (most + 1) (omega arith) (omega arith) in
+            ap (λ j. mapRecords readLine 19 j (cut most text)) (sym (v .whole .count)) ∙ front-numbers text _ valid-whole (most + 1) (omega arith) (omega arith)
       ]
 
 -- ---- reading at most `most` lines
