@@ -12,3 +12,4 @@ pub mod ListingTheorems
 pub mod PackingLaws
 pub mod PackingTheorems
 pub mod ExportLaws
+pub mod MarkedExamples

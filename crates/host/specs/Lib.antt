@@ -6,3 +6,4 @@ pub mod Packing
 pub mod Exports
 pub mod Limits
 pub mod Theorems
+pub mod MarkedExamples
