@@ -3,7 +3,7 @@
 ghost use mathlib.Core.Path.{_≡_};
 ghost use mathlib.Core.List.{[], _∷_};
 ghost use Prim.Native.Nat.{_+_, _*_, _<_, _≤_};
-ghost use lib.ListN.{length, getD};
+ghost use lib.ListN.{length, take, getD};
 ghost use lib.Seq.{sets};
 ghost use Rattle.lines.specs.Calls.{over};
 ghost use Rattle.lines.specs.Text.{isPartial};
@@ -32,7 +32,7 @@ pub use crate::table::CLOSING;
 pub use crate::table::CONSTANTS;
 pub use crate::table::MAX_GATES;
 use crate::table::MAX_OUTPUTS;
-use crate::table::MAX_REFERENCES;
+pub use crate::table::MAX_REFERENCES;
 use crate::table::closings_from;
 use crate::table::gate_kind;
 use crate::table::gate_left;
@@ -115,12 +115,22 @@ pub fn pair(t: &[u32]) -> DepthPair
     requires { ⌜ WellFormed (now t) ⌝ }
     ensures { λ r. ⌜ r ≡ record { depth = circuitDepth (decode (now (t .entry))); critical = criticalCount (decode (now (t .entry))) } ⌝ }
 {
+    let mut u = [0u32; MAX_REFERENCES];
+    pair_with_reverse_depths(t, &mut u)
+}
+
+// The same, with the reverse depths over the front of u: who trims the circuit afterwards need not compute them again.
+pub fn pair_with_reverse_depths(t: &[u32], u: &mut [u32]) -> DepthPair
+    requires { ⌜ WellFormed (now t) ⌝ }
+    requires { ⌜ refs (now t) ≤ length (now u) ⌝ }
+    ensures { λ r. ⌜ r ≡ record { depth = circuitDepth (decode (now (t .entry))); critical = criticalCount (decode (now (t .entry))) } ⌝ }
+    ensures { λ _. ⌜ now (u .exit) ≡ over (reverseDepths (decode (now (t .entry)))) (now (u .entry)) ⌝ }
+{
     let mut d = [0u32; MAX_REFERENCES];
     depths(t, &mut d);
-    let mut u = [0u32; MAX_REFERENCES];
-    reverse_depths(t, &mut u);
+    reverse_depths(t, u);
     let deepest = output_depth(t, &d);
-    let count = count_critical(t, &d, &u, deepest);
+    let count = count_critical(t, &d, u, deepest);
     DepthPair {
         depth: deepest,
         critical: count,
@@ -135,9 +145,20 @@ pub fn trim(t: &[u32], out: &mut [u32])
 {
     let mut u = [0u32; MAX_REFERENCES];
     reverse_depths(t, &mut u);
+    trim_by_reverse_depths(t, &u, out);
+}
+
+// The same, where u begins with the reverse depths.
+pub fn trim_by_reverse_depths(t: &[u32], u: &[u32], out: &mut [u32])
+    requires { ⌜ WellFormed (now t) ⌝ }
+    requires { ⌜ refs (now t) ≤ length (now u) ⌝ }
+    requires { ⌜ take (refs (now t)) (now u) ≡ reverseDepths (decode (now t)) ⌝ }
+    requires { ⌜ tableEnd (now t) ≤ length (now out) ⌝ }
+    ensures { λ _. ⌜ now (out .exit) ≡ over (trimOf (now (t .entry))) (now (out .entry)) ⌝ }
+{
     let mut names = [0u32; MAX_REFERENCES];
-    let kept = rank_references(t, &u, &mut names);
-    write_trimmed(t, &u, &names, kept, out);
+    let kept = rank_references(t, u, &mut names);
+    write_trimmed(t, u, &names, kept, out);
 }
 
 // The line of gate i, counted from 0, so that crates above need not know where lines begin. Its operands are below its own reference.

@@ -17,10 +17,11 @@ ghost use Rattle.rewriting.specs.Verdict.{isTooLarge};
 use crate::replacing::replace;
 use circuit::checked::DepthPair;
 use circuit::checked::MAX_GATES;
+use circuit::checked::MAX_REFERENCES;
 use circuit::checked::MAX_TABLE;
-use circuit::checked::pair;
+use circuit::checked::pair_with_reverse_depths;
 use circuit::checked::table_end;
-use circuit::checked::trim;
+use circuit::checked::trim_by_reverse_depths;
 use rules::SiteMatch;
 use rules::checked::place;
 use rules::checked::site_match;
@@ -96,7 +97,7 @@ impl Run {
     }
 
     // What the circuit after replacement, with whose table `candidate` begins, leaves: it is trimmed into the working table if it is kept.
-    // Its pair is measured before, so that the others cost no trim.
+    // Its pair is measured before, so that the others cost no trim; the reverse depths serve both.
     fn settle(self, candidate: &[u32], work: &mut [u32]) -> Stepped
         requires { ⌜ WellFormed (tableIn (now candidate)) ⌝ }
         requires { ⌜ Held self (now work) ⌝ }
@@ -105,11 +106,12 @@ impl Run {
         ensures { λ r. ⌜ Held (r .run) (now (work .exit)) ⌝ }
     {
         let end = table_end(candidate);
-        let next = self.compare(pair(&candidate[..end]));
+        let mut reverse = [0u32; MAX_REFERENCES];
+        let next = self.compare(pair_with_reverse_depths(&candidate[..end], &mut reverse));
         let verdict = next.verdict;
         match verdict {
             0 => {
-                trim(&candidate[..end], work);
+                trim_by_reverse_depths(&candidate[..end], &reverse, work);
                 next
             }
             _ => next,

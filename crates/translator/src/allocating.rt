@@ -13,7 +13,6 @@ ghost use Rattle.translator.specs.Program.{maxInstructions};
 ghost use Rattle.translator.specs.Allocation.{operated};
 ghost use Rattle.translator.specs.Allocator.{ensureLoaded, ensureOperands, outputsLoaded, allocationAtEnd};
 ghost use Rattle.translator.specs.Registers.{maxReferences, instructionAt, allocationOf, gateOf, RegisterArrays, Represents, Loadable, Operable, Turnable};
-use crate::MAX_REFERENCES;
 use crate::MAX_REGISTERS;
 use crate::registers::Counts;
 use crate::registers::assign_register;
@@ -22,6 +21,7 @@ use crate::registers::release;
 use crate::writing::LOAD;
 use circuit::checked::CONSTANTS;
 use circuit::checked::GateLine;
+use circuit::checked::MAX_REFERENCES;
 use circuit::checked::gate_line;
 use circuit::checked::output_reference;
 

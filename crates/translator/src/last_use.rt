@@ -6,7 +6,7 @@ ghost use Rattle.circuit.specs.Table.{gates, gateLines, decode};
 ghost use Rattle.circuit.specs.WellFormed.{WellFormed};
 ghost use Rattle.translator.specs.LastUse.{lastGate, lastUse, countDistinct};
 ghost use Rattle.translator.specs.Registers.{maxReferences};
-use crate::MAX_REFERENCES;
+use circuit::checked::MAX_REFERENCES;
 use circuit::checked::gate_line;
 use circuit::checked::output_reference;
 

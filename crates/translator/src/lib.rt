@@ -12,14 +12,10 @@ mod writing;
 
 use circuit::CIRCUIT_TABLE;
 use circuit::NO_TABLE;
-use circuit::checked::LAST_REFERENCE;
 use circuit::checked::is_partial;
 use circuit::checked::refusal;
 use lines::Refusal;
 use program::translate_accepted;
-
-// As many references as a circuit has at most.
-const MAX_REFERENCES: usize = LAST_REFERENCE as usize + 1;
 
 // As many registers as a machine has at most.
 const MAX_REGISTERS: usize = 1024;

@@ -10,8 +10,8 @@ ghost use Rattle.translator.specs.LastUse.{lastUse, countDistinct};
 ghost use Rattle.translator.specs.LiveRange.{isUsedBefore};
 ghost use Rattle.translator.specs.Pressure.{oneIf, arrivals, departures, pressureAfter, linearNeed};
 ghost use Rattle.translator.specs.Registers.{maxReferences};
-use crate::MAX_REFERENCES;
 use circuit::checked::CONSTANTS;
+use circuit::checked::MAX_REFERENCES;
 use circuit::checked::gate_line;
 use circuit::checked::larger;
 

@@ -11,9 +11,9 @@ ghost use Rattle.circuit.specs.Path.{isAmong};
 ghost use Rattle.translator.specs.Machine.{operating, maxRegisters};
 ghost use Rattle.translator.specs.Allocation.{nextRegister, assign, release};
 ghost use Rattle.translator.specs.Registers.{maxReferences, instructionAt, stackOf, allocationOf, RegisterArrays, Represents};
-use crate::MAX_REFERENCES;
 use crate::MAX_REGISTERS;
 use crate::writing::write_instruction;
+use circuit::checked::MAX_REFERENCES;
 
 // How many registers are free again, how many were ever used, and how many instructions are written.
 pub struct Counts {
