@@ -1,0 +1,173 @@
+//! A case: three texts and three tables, some of them damaged, and the calls that are tried on them.
+
+use evaluator::circuit::{Circuit, MOST_INPUTS};
+use evaluator::generator;
+use evaluator::holding::Holding;
+use evaluator::lines::{lines_of_table, read_line, text_of, Line, LINE_BYTES};
+use evaluator::random::Random;
+use evaluator::refusal::CIRCUIT;
+use evaluator::rules::{rules_lines, MOST_RULES};
+use evaluator::sites::sites_lines;
+use evaluator::translation::MOST_REGISTERS;
+
+use crate::calls::Calls;
+use crate::numbers::{alter, any_lines, odd_number, spoil_table, spoil_text, LINE_NUMBERS};
+use crate::shapes::{chained, crowded, full};
+
+/// How many rules are judged, sites matched and limits tried in a case.
+const JUDGED: u32 = 6;
+const MATCHED: usize = 5;
+const LIMITS: usize = 3;
+
+/// A circuit's, a rules' and a sites' text and table; they may be damaged in different ways.
+pub struct Case {
+    texts: [Vec<u8>; 3],
+    tables: [Vec<u32>; 3],
+}
+
+impl Case {
+    /// The case of a seed and a number from 1.
+    pub fn new(random: &mut Random, seed: u64, number: u64) -> Case {
+        let texts = texts(random, seed, number);
+        let tables = texts.each_ref().map(|text| table_of(random, text));
+        let mut case = Case { texts, tables };
+        case.spoil(random);
+        case
+    }
+
+    /// Damages each table and text now and then, beside what the generator did.
+    fn spoil(&mut self, random: &mut Random) {
+        for table in &mut self.tables {
+            if random.chance(8) {
+                spoil_table(random, table);
+            }
+        }
+        for text in &mut self.texts {
+            if random.chance(5) {
+                spoil_text(random, text);
+            }
+        }
+        for _ in 0..random.below(3) {
+            // Beyond its head a table of sites may hold any number.
+            alter(random, &mut self.tables[2], LINE_NUMBERS);
+        }
+    }
+
+    /// Tries every export.
+    pub fn try_all(&self, calls: &mut Calls) {
+        let [circuit, rules, sites] = self.tables.each_ref().map(Vec::as_slice);
+        try_lines(calls, &self.texts, &self.tables);
+        calls.measure(circuit);
+        try_evaluate(calls, circuit);
+        try_judge(calls, rules);
+        try_match(calls, circuit, rules, sites);
+        calls.rewrite([circuit, rules, sites]);
+        try_translate(calls, circuit);
+        calls.listing(self.texts.each_ref().map(Vec::as_slice));
+    }
+}
+
+/// Mostly a case of the evaluator's generator.
+fn texts(random: &mut Random, seed: u64, number: u64) -> [Vec<u8>; 3] {
+    let draft = match number % 200 {
+        7 => crowded(random),
+        107 => full(random),
+        rest if rest % 10 == 3 => chained(random),
+        _ => {
+            let case = generator::case(seed, number);
+            return [case.circuit, case.rules, case.sites];
+        }
+    };
+    let circuit = draft.circuit.lines();
+    let rules = rules_lines(&draft.rules);
+    let sites = sites_lines(&draft.sites);
+    [circuit, rules, sites].map(|lines| text_of(&lines))
+}
+
+/// A text's numbers, with any numbers in place of what is not a line, and a torn line at the end of a torn text.
+fn table_of(random: &mut Random, text: &[u8]) -> Vec<u32> {
+    let chunks = text.chunks_exact(LINE_BYTES);
+    let torn = chunks.remainder().len().min(2);
+    let mut table = Vec::new();
+    for chunk in chunks {
+        let line = read_line(chunk);
+        table.extend(line.unwrap_or_else(|| [0; 3].map(|old| odd_number(random, old))));
+    }
+    table.resize(table.len() + torn, 0);
+    table
+}
+
+/// The line layer on the case's texts and tables, and on lines of numbers of all lengths.
+fn try_lines(calls: &mut Calls, texts: &[Vec<u8>], tables: &[Vec<u32>]) {
+    for text in texts {
+        calls.read(text);
+    }
+    for table in tables {
+        calls.write(table);
+    }
+    let lines = any_lines(&mut calls.random);
+    let (mut text, mut table) = (text_of(&lines), lines.concat());
+    if calls.random.chance(50) {
+        spoil_text(&mut calls.random, &mut text);
+        spoil_table(&mut calls.random, &mut table);
+    }
+    calls.read(&text);
+    calls.write(&table);
+}
+
+/// The evaluator on as many bytes as the head says, and on a few more or less.
+fn try_evaluate(calls: &mut Calls, circuit: &[u32]) {
+    let inputs = head(circuit, MOST_INPUTS);
+    let wrong = [inputs.saturating_sub(1), inputs + 1, 0, 2 * inputs];
+    for count in [inputs, calls.random.pick(&wrong)] {
+        let random = &mut calls.random;
+        let bytes: Vec<u8> = (0..count).map(|_| random.input_byte()).collect();
+        calls.evaluate(circuit, &bytes);
+    }
+}
+
+/// The judge on the first few rules, on one of all or just outside, and on any number.
+fn try_judge(calls: &mut Calls, rules: &[u32]) {
+    let count = head(rules, MOST_RULES);
+    let near = calls.random.between(0, count as usize + 1) as u32;
+    let any = odd_number(&mut calls.random, count);
+    for rule in (1..=count.min(JUDGED)).chain([near, any]) {
+        calls.judge(rules, rule);
+    }
+}
+
+/// The match at the first few sites, and at one of them with another number.
+fn try_match(calls: &mut Calls, circuit: &[u32], rules: &[u32], sites: &[u32]) {
+    let (lines, _) = sites.as_chunks::<LINE_NUMBERS>();
+    let mut tried: Vec<Line> = lines.iter().skip(1).take(MATCHED).copied().collect();
+    let mut other = tried.first().copied().unwrap_or_default();
+    alter(&mut calls.random, &mut other, 0);
+    tried.push(other);
+    for site in tried {
+        calls.match_site(circuit, rules, site);
+    }
+}
+
+/// The translator at limits around the need and at the ends of the range.
+fn try_translate(calls: &mut Calls, circuit: &[u32]) {
+    let need = need(circuit).unwrap_or(9);
+    let any = odd_number(&mut calls.random, need);
+    let most = MOST_REGISTERS;
+    let limits = [0, 1, need - 1, need, need, need + 1, most, most + 1, any];
+    for _ in 0..LIMITS {
+        let limit = calls.random.pick(&limits);
+        calls.translate(circuit, limit);
+    }
+}
+
+/// The need of a circuit's table, if it is one.
+fn need(circuit: &[u32]) -> Option<u32> {
+    let lines = lines_of_table(circuit, CIRCUIT).ok()?;
+    let trimmed = Circuit::checked(&lines).ok()?.trimmed();
+    Some(Holding::of(&trimmed).need() as u32)
+}
+
+/// The first number of a table, if there is one, up to the largest that it may be.
+fn head(table: &[u32], most: u32) -> u32 {
+    table.first().map_or(0, |&count| count.min(most))
+}

@@ -1,0 +1,226 @@
+//! Circuits, rules and sites of shapes that the evaluator's generator does not draw.
+
+use std::collections::VecDeque;
+
+use evaluator::circuit::{Circuit, MOST_GATES, MOST_INPUTS, MOST_OUTPUTS};
+use evaluator::gates::{Gate, Kind, CONSTANTS};
+use evaluator::generator::stock;
+use evaluator::random::Random;
+use evaluator::rules::{Rule, MOST_HOLES, MOST_RULES, MOST_SIDE_GATES};
+use evaluator::sites::{Site, MOST_SITES};
+
+/// A circuit, rules and sites.
+pub struct Draft {
+    pub circuit: Circuit,
+    pub rules: Vec<Rule>,
+    pub sites: Vec<Site>,
+}
+
+/// A circuit that needs about as many registers as there can be: products that are all held before they are added up.
+pub fn crowded(random: &mut Random) -> Draft {
+    let inputs = random.between(1, 8);
+    let first = CONSTANTS + inputs;
+    let products = MOST_GATES as usize / 2 - random.below(4);
+    let mut gates: Vec<Gate> = (0..products)
+        .map(|_| any_gate(random, Kind::And, first))
+        .collect();
+    let mut sum = first;
+    for product in first + 1..first + products {
+        gates.push(Gate::new(Kind::Xor, sum, product));
+        sum = first + gates.len() - 1;
+    }
+    let circuit = Circuit {
+        inputs,
+        gates,
+        outputs: vec![sum],
+    };
+    with_stock(random, circuit)
+}
+
+/// A circuit of as many inputs, gates and outputs as there may be, all gates live, and both constants and all inputs used.
+pub fn full(random: &mut Random) -> Draft {
+    let inputs = MOST_INPUTS as usize;
+    let first = CONSTANTS + inputs;
+    let end = first + MOST_GATES as usize;
+    let kinds = random.pick(&[[Kind::And, Kind::And], [Kind::Xor, Kind::And]]);
+    let mut gates = Vec::new();
+    for own in first..end {
+        let [last, operand] = match own - first {
+            0 => [0, 1],
+            index if index <= inputs => [own - 1, CONSTANTS + index - 1],
+            _ => [own - 1, random.below(own)],
+        };
+        gates.push(Gate::new(random.pick(&kinds), last, operand));
+    }
+    let mut outputs = vec![end - 1];
+    outputs.resize_with(MOST_OUTPUTS as usize, || random.below(end));
+    let circuit = Circuit {
+        inputs,
+        gates,
+        outputs,
+    };
+    with_stock(random, circuit)
+}
+
+/// The circuit with as many rules and sites as there may be, at any of its gates.
+fn with_stock(random: &mut Random, circuit: Circuit) -> Draft {
+    let rules: Vec<Rule> = stock()
+        .into_iter()
+        .cycle()
+        .take(MOST_RULES as usize)
+        .collect();
+    let site = |_| Site {
+        rule: random.between(1, rules.len()) as u32,
+        gate: random.between(circuit.first_gate(), circuit.references() - 1) as u32,
+        mask: random.below(4) as u32,
+    };
+    Draft {
+        sites: (0..MOST_SITES).map(site).collect(),
+        circuit,
+        rules,
+    }
+}
+
+/// A gate of any operands below `own`.
+fn any_gate(random: &mut Random, kind: Kind, own: usize) -> Gate {
+    Gate::new(kind, random.below(own), random.below(own))
+}
+
+/// A rule whose pattern is a chain of up to as many gates as there may be, a circuit with that pattern in it, and sites there.
+pub fn chained(random: &mut Random) -> Draft {
+    let rule = chain_rule(random);
+    let mask = random.below(1 << rule.left.len()) as u32;
+    let (circuit, end) = planted(random, &rule, mask);
+    let mut rules = stock();
+    let start = random.below(rules.len());
+    rules.rotate_left(start);
+    rules.truncate(random.below(4));
+    let place = random.between(0, rules.len());
+    rules.insert(place, rule);
+    let aimed = Site {
+        rule: place as u32 + 1,
+        gate: trimmed_name(&circuit, end) as u32,
+        mask,
+    };
+    let count = random.between(1, 8);
+    Draft {
+        sites: (0..count).map(|_| near(random, aimed)).collect(),
+        circuit,
+        rules,
+    }
+}
+
+/// From a product or sum of holes, some of them repeated, to the balanced one without repetition; now and then unsound.
+fn chain_rule(random: &mut Random) -> Rule {
+    let kind = random.pick(&[Kind::Xor, Kind::And]);
+    let holes = random.between(1, MOST_HOLES as usize);
+    let first = CONSTANTS + holes;
+    let operands = chain_operands(random, holes);
+    let odd = |&hole: &usize| operands.iter().filter(|&&other| other == hole).count() % 2 == 1;
+    let mut terms: VecDeque<usize> = (CONSTANTS..first)
+        .filter(|hole| kind == Kind::And || odd(hole))
+        .collect();
+    if random.chance(20) {
+        terms.pop_back();
+    }
+    let (right, closing) = balanced(kind, terms, first);
+    Rule {
+        holes,
+        left: chain(random, kind, &operands, first),
+        right,
+        closing,
+    }
+}
+
+/// Every hole at least once, in random order.
+fn chain_operands(random: &mut Random, holes: usize) -> Vec<usize> {
+    let count = random.between(holes.max(2), MOST_SIDE_GATES as usize + 1);
+    let mut operands: Vec<usize> = (CONSTANTS..CONSTANTS + holes).collect();
+    while operands.len() < count {
+        let place = random.between(0, operands.len());
+        operands.insert(place, random.between(CONSTANTS, CONSTANTS + holes - 1));
+    }
+    operands
+}
+
+/// The gates that combine the operands one after another, the first gate being reference `first`.
+fn chain(random: &mut Random, kind: Kind, operands: &[usize], first: usize) -> Vec<Gate> {
+    let mut combined = operands[0];
+    let mut gates = Vec::new();
+    for (&operand, own) in operands[1..].iter().zip(first..) {
+        let gate = Gate::new(kind, combined, operand);
+        gates.push(random.pick(&[gate, gate.swapped()]));
+        combined = own;
+    }
+    gates
+}
+
+/// The gates that combine the terms in a balanced tree, and the reference of what they make.
+fn balanced(kind: Kind, mut terms: VecDeque<usize>, first: usize) -> (Vec<Gate>, usize) {
+    let mut gates = Vec::new();
+    while terms.len() > 1 {
+        let operands: Vec<usize> = terms.drain(..2).collect();
+        terms.push_back(first + gates.len());
+        gates.push(Gate::new(kind, operands[0], operands[1]));
+    }
+    (gates, terms.pop_back().unwrap_or(0))
+}
+
+/// A circuit with a rule's left side in it, crossed where the mask says so, and the reference of its last gate.
+fn planted(random: &mut Random, rule: &Rule, mask: u32) -> (Circuit, usize) {
+    let inputs = random.between(0, 8);
+    let first = CONSTANTS + inputs;
+    let mut gates = any_gates(random, first);
+    let mut names = vec![0, 1];
+    let below = first + gates.len();
+    names.extend((0..rule.holes).map(|_| random.below(below)));
+    for (index, gate) in rule.left.iter().enumerate() {
+        let gate = gate.renamed(&names);
+        names.push(first + gates.len());
+        gates.push(if mask >> index & 1 == 1 {
+            gate.swapped()
+        } else {
+            gate
+        });
+    }
+    let end = first + gates.len() - 1;
+    gates.extend(any_gates(random, end + 1));
+    let last = first + gates.len() - 1;
+    let outputs = vec![end, last, random.below(last)];
+    let circuit = Circuit {
+        inputs,
+        gates,
+        outputs,
+    };
+    (circuit, end)
+}
+
+/// A few gates of any kind and operands, the first of them being reference `first`.
+fn any_gates(random: &mut Random, first: usize) -> Vec<Gate> {
+    let count = random.between(0, 6);
+    (first..first + count)
+        .map(|own| {
+            let kind = random.pick(&[Kind::Xor, Kind::And]);
+            any_gate(random, kind, own)
+        })
+        .collect()
+}
+
+/// The reference of a live gate once the circuit is trimmed.
+fn trimmed_name(circuit: &Circuit, gate: usize) -> usize {
+    let first = circuit.first_gate();
+    let live = &circuit.live()[first..gate];
+    first + live.iter().filter(|&&live| live).count()
+}
+
+/// The same site, or one that differs in one number; all are short enough for a text.
+fn near(random: &mut Random, site: Site) -> Site {
+    let mut near = site;
+    match random.below(5) {
+        0 => near.mask ^= 1 << random.below(19),
+        1 => near.gate = random.below(2 * near.gate as usize) as u32,
+        2 => near.rule = random.below(5) as u32,
+        _ => {}
+    }
+    near
+}
