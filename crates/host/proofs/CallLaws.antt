@@ -28,10 +28,10 @@ use Rattle.host.specs.Listing.{listingLines, summaryOf, listingTable, li
 use Rattle.host.specs.ListingCall.{maxListing, textRefusal, listTables, listTexts, putting, listingOutcome}
 use Rattle.host.specs.Front.{maxCircuitLines, maxRulesLines, maxSitesLines, front}
 use Rattle.host.specs.Theorems.{FrontIsListedAlike, CutIsListedAlike}
-use Rattle.host.proofs.TextLaws.{whole-passes, accepted-text, cut-accepted, cut-read, text-length}
+use Rattle.lines.proofs.TextLaws.{whole-passes, numbers-length, valid-table}
+use Rattle.host.proofs.TextLaws.{accepted-text, cut-accepted, cut-read}
 use Rattle.host.proofs.FrontLaws.{Alike, alike-number, circuit-alike, rules-alike, sites-alike}
 use Rattle.host.proofs.ListingLaws.{listing-valid, circuit-length}
-use Rattle.host.proofs.WriteLaws.{valid-table}
 
 -- ---- of tables
 
@@ -165,7 +165,7 @@ module _ (numbers old d : List ℕ) (n : ℕ) (h : n ≡ length numbers) (e : d 
 pub text-whole : (text : List ℕ) → textRefusal text ≡ 0 → isPartial 3 (readText text) ≡ false
 text-whole text h =
     let v = accepted-text text h in
-    whole-passes 3 (length text / 19) (readText text) (omega arith) (text-length text (length text / 19) v) (v .whole .some)
+    whole-passes 3 (length text / 19) (readText text) (omega arith) (numbers-length text (length text / 19) v) (v .whole .some)
 
 pub front-whole : (most : ℕ) (text : List ℕ) → textRefusal text ≡ 0 → isPartial 3 (front most (readText text)) ≡ false
 front-whole most text h =

@@ -24,7 +24,7 @@ use Rattle.rules.proofs.RefusalLaws.{rules-walk}
 use Rattle.rules.proofs.SiteLaws.{sites-head, sites-lines}
 use Rattle.rules.proofs.WalkLaws.{limited-of, walk-limits, walk-over, walk-pass, walk-head, walk-top}
 use Rattle.host.specs.Front.{maxCircuitLines, maxRulesLines, maxSitesLines, front}
-use Rattle.host.proofs.TextLaws.{whole-passes}
+use Rattle.lines.proofs.TextLaws.{whole-passes}
 
 -- f is t, or both get the same refusal
 abbrev pub Alike : (refusal : List ℕ → ℕ) (f t : List ℕ) → Type 0

@@ -26,7 +26,7 @@ use Rattle.host.specs.ListingCall.{maxListing, textRefusal, listTables, 
 use Rattle.host.proofs.ListingLaws.{listing-length, listing-limit, listing-valid}
 use Rattle.host.specs.Limits.{Within}
 use Rattle.host.proofs.RefusalLaws.{first-by, text-known, circuit-known, rules-known, sites-known, found-within, none-found}
-use Rattle.host.proofs.WriteLaws.{text-length}
+use Rattle.lines.proofs.TextLaws.{bytes-length}
 
 -- ---- what is given or refused
 
@@ -51,7 +51,7 @@ accepted-of circuit rules sites a b c =
 known-listing : (circuit rules sites : List ℕ) → Accepted circuit rules sites → Known (gives (listingText circuit rules sites))
 known-listing circuit rules sites k =
     let v = listing-valid circuit rules sites (k .safe) (k .of-circuit) (k .of-sites) in
-    let l = text-length (listingTable circuit rules sites) _ (listing-length circuit rules sites (k .safe)) in
+    let l = bytes-length (listingTable circuit rules sites) _ (listing-length circuit rules sites (k .safe)) in
     (omega (arith, l), omega (arith, l, listing-limit circuit rules sites (k .safe) (k .of-circuit) (k .of-sites)))
 
 pub known-tables : (circuit rules sites : List ℕ) → Known (listTables circuit rules sites)

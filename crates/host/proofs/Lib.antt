@@ -1,4 +1,3 @@
-pub mod RecordLaws
 pub mod TextLaws
 pub mod FrontLaws
 pub mod NumberLaws

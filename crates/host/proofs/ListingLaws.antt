@@ -3,15 +3,13 @@ use mathlib.Core.Path.{_≡_, refl, sym, ap, _∙_}
 use mathlib.Core.Logic.{⊎-elim}
 use mathlib.Core.Bool.{true}
 use mathlib.Core.List.{List, [], _∷_, _++_, map}
-use Prim.Native.Nat.{ℕ, zero, suc, _+_, _*_, _/_, _≤_, _<_}
+use Prim.Native.Nat.{ℕ, suc, _+_, _*_, _/_, _≤_, _<_}
 use native.Mathlib.Nat.{mul-div-right}
 use native.Mathlib.Omega.{arith}
-use lib.ListN.{length, drop, getD, length-append}
-use borrow.Author.Tests.{le-leb}
-use Rattle.lists.specs.Records.{allRecords}
-use Rattle.lists.proofs.Tests.{both}
+use lib.ListN.{length, getD, length-append}
 use Rattle.lines.specs.Line.{isRow}
 use Rattle.lines.proofs.CallLaws.{Valid}
+use Rattle.lines.proofs.TextLaws.{AllSmall, small-append, small-rows, small-line, whole-passes}
 use Rattle.circuit.specs.Circuit.{Gate, Circuit, closingKind, firstGate, noGate}
 use Rattle.circuit.specs.Table.{decode, closingLine, encodeLines, encode}
 use Rattle.circuit.specs.Depth.{circuitDepth}
@@ -36,39 +34,6 @@ use Rattle.host.specs.declared.numbers.Summary.{Summary}
 use Rattle.host.specs.Listing.{verdictKind, summary, verdictLines, summaryOf, listingTable}
 use Rattle.host.specs.ListingCall.{maxListing}
 use Rattle.host.specs.Printed.{refusalKind}
-use Rattle.host.proofs.TextLaws.{whole-passes}
-
--- ---- numbers that can be written
-
-abbrev AllSmall : List ℕ → Type 0
-AllSmall [] = Unit {0}
-AllSmall (x ∷ xs) = (x ≤ 999999) × AllSmall xs
-
-small-at : (t : List ℕ) → AllSmall t → (i : ℕ) → getD t i 0 ≤ 999999
-small-at [] s i = omega arith
-small-at (x ∷ t) s zero = s .0
-small-at (x ∷ t) s (suc i) = small-at t (s .1) i
-
-small-drop : (k : ℕ) (t : List ℕ) → AllSmall t → AllSmall (drop k t)
-small-drop zero t s = s
-small-drop (suc k) [] s = tt
-small-drop (suc k) (x ∷ t) s = small-drop k t (s .1)
-
-small-append : (a b : List ℕ) → AllSmall a → AllSmall b → AllSmall (a ++ b)
-small-append [] b s r = r
-small-append (x ∷ a) b s r = (s .0, small-append a b (s .1) r)
-
-small-rows : (n : ℕ) (t : List ℕ) → AllSmall t → allRecords isRow 3 n t ≡ true
-unfolding allRecords isRow
-small-rows zero t s = refl
-small-rows (suc n) t s =
-    let a = le-leb _ _ (small-at t s 0) in
-    let b = le-leb _ _ (small-at t s 1) in
-    let c = le-leb _ _ (small-at t s 2) in
-    both (both (both a b) c) (small-rows n (drop 3 t) (small-drop 3 t s))
-
-small-line : (a b c : ℕ) (t : List ℕ) → a ≤ 999999 → b ≤ 999999 → c ≤ 999999 → AllSmall t → AllSmall (a ∷ b ∷ c ∷ t)
-small-line a b c t ha hb hc s = (ha, (hb, (hc, s)))
 
 -- ---- those of a circuit
 

@@ -14,7 +14,8 @@ use Rattle.host.specs.Limits.{Within, listingLimits}
 use Rattle.host.specs.Printed.{refusalKind, printedOf, printed}
 use Rattle.host.specs.Theorems.{ListedIsSafe, ListedIsText, RefusalKeepsBuffer, ListingIsPrinted, RefusalIsPrinted, PrintedFits}
 use Rattle.host.proofs.ListingLaws.{listing-valid}
-use Rattle.host.proofs.WriteLaws.{valid-table, refusal-length}
+use Rattle.lines.proofs.TextLaws.{valid-table}
+use Rattle.host.proofs.WriteLaws.{refusal-length}
 use Rattle.host.proofs.LimitLaws.{listing-is-within}
 use Rattle.host.proofs.KnownLaws.{Known, known-tables, known-texts, tables-given, texts-given, texts-room}
 

@@ -1,51 +1,20 @@
 -- Tables that can be written, and the listing put together behind a circuit's lines. Assumes nothing.
 use mathlib.Core.Path.{_≡_, refl, sym, ap, _∙_}
-use mathlib.Core.Bool.{true, not}
+use mathlib.Core.Bool.{true}
 use mathlib.Core.List.{List, [], _∷_, _++_}
-use Prim.Native.Nat.{ℕ, _+_, _*_, _/_, _≤_}
-use native.Mathlib.Nat.{mul-div-right}
+use Prim.Native.Nat.{ℕ, _+_, _*_, _≤_}
 use native.Mathlib.Omega.{arith}
 use lib.ListN.{length, take, drop, length-append}
 use lib.Seq.{sets, sets-eq, length-take-le, take-at}
-use borrow.Author.Tests.{not-true}
-use Rattle.lists.specs.Records.{mapRecords}
-use Rattle.lists.proofs.Tests.{left-of, right-of}
-use Rattle.lists.proofs.Records.{map-length}
 use Rattle.lists.proofs.Stores.{sets-append}
-use Rattle.lines.specs.Line.{isRow, writeLine}
-use Rattle.lines.specs.Text.{isPartial, isTable, writeTable}
+use Rattle.lines.specs.Text.{isTable, writeTable}
 use Rattle.lines.specs.Refusal.{Result, Outcome, leaving}
 use Rattle.lines.specs.Calls.{over, writing}
-use Rattle.lines.proofs.LineLaws.{line-length}
-use Rattle.lines.proofs.CallLaws.{Valid, whole-is, conversion-done}
+use Rattle.lines.proofs.TextLaws.{valid-table, bytes-length, table-written}
 use Rattle.host.specs.declared.numbers.Summary.{Summary}
 use Rattle.host.specs.Printed.{refusalKind}
 use Rattle.host.specs.Listing.{summary, verdictLines, listingLines}
 use Rattle.host.proofs.ListingLaws.{summary-length, verdicts-length, refusal-valid}
-
-pub valid-table : (t : List ℕ) (n : ℕ) → Valid 3 isRow t n → isTable t ≡ true
-unfolding isTable
-valid-table t n v = rw (v .not-partial, ← v .whole .count) (v .right)
-
-table-valid : (t : List ℕ) → isTable t ≡ true → Valid 3 isRow t (length t / 3)
-unfolding isTable
-table-valid t e =
-    let w = not-true (isPartial 3 t) (left-of (not (isPartial 3 t)) _ e) in
-    record { whole = whole-is 3 t w; not-partial = w; right = right-of (not (isPartial 3 t)) _ e }
-
-pub text-length : (t : List ℕ) (n : ℕ) → length t ≡ 3 * n → length (writeTable t) ≡ 19 * n
-unfolding writeTable
-text-length t n l =
-    map-length writeLine 3 19 line-length (length t / 3) t ∙ ap (λ k. 19 * k) (ap (λ (k : ℕ). k / 3) l ∙ mul-div-right n (omega arith))
-
--- what the call `write` leaves
-text-written : (t buffer : List ℕ) → isTable t ≡ true → length (writeTable t) ≤ length buffer → writing t buffer .buffer ≡ over (writeTable t) buffer
-unfolding writeTable
-text-written t buffer e room =
-    let l = map-length writeLine 3 19 line-length (length t / 3) t in
-    ap (λ (o : Outcome). o .buffer)
-    (sym (conversion-done 3 19 isRow writeLine t buffer (length t / 3) (table-valid t e) line-length (omega (arith, l)) _ refl))
-    ∙ ap (λ k. mapRecords writeLine 3 (length t / 3) t ++ drop k buffer) (sym l)
 
 -- ---- the lines behind those of a circuit, which end at place `at`
 
@@ -69,21 +38,21 @@ module _ (t₀ t₁ t₂ : List ℕ) (at count end : ℕ) (s : Summary) (verdict
   -- what is written of them
   module _ (n : ℕ) (three : end ≡ 3 * n) (buffer : List ℕ) (ok : isTable (listingLines (take at t₀) s verdicts) ≡ true) (room : 19 * n ≤ length buffer) where
     pub listing-length : 19 * n ≡ length (writeTable (listingLines (take at t₀) s verdicts))
-    listing-length = sym (text-length (listingLines (take at t₀) s verdicts) n (lines-length ∙ three))
+    listing-length = sym (bytes-length (listingLines (take at t₀) s verdicts) n (lines-length ∙ three))
 
     pub listing-written : (r : Result) (after : List ℕ) → leaving r after ≡ writing (take end t₂) buffer
         → after ≡ over (writeTable (listingLines (take at t₀) s verdicts)) buffer
     listing-written r after q =
         ap (λ (o : Outcome). o .buffer) q ∙ ap (λ x. writing x buffer .buffer) lines-stored
-        ∙ text-written (listingLines (take at t₀) s verdicts) buffer ok (omega (arith, listing-length))
+        ∙ table-written (listingLines (take at t₀) s verdicts) buffer ok (omega (arith, listing-length))
 
 -- ---- the line of a refusal
 
 pub refusal-length : (number table : ℕ) → 19 ≡ length (writeTable (refusalKind ∷ number ∷ table ∷ []))
-refusal-length number table = sym (text-length (refusalKind ∷ number ∷ table ∷ []) 1 refl)
+refusal-length number table = sym (bytes-length (refusalKind ∷ number ∷ table ∷ []) 1 refl)
 
 pub refusal-written : (number table : ℕ) → number ≤ 999999 → table ≤ 999999 → (buffer : List ℕ) → 19 ≤ length buffer → (r : Result) (after : List ℕ)
     → leaving r after ≡ writing (refusalKind ∷ number ∷ table ∷ []) buffer → after ≡ over (writeTable (refusalKind ∷ number ∷ table ∷ [])) buffer
 refusal-written number table h k buffer room r after q =
     let t = refusalKind ∷ number ∷ table ∷ [] in
-    ap (λ (o : Outcome). o .buffer) q ∙ text-written t buffer (valid-table t 1 (refusal-valid number table h k)) (omega (arith, refusal-length number table))
+    ap (λ (o : Outcome). o .buffer) q ∙ table-written t buffer (valid-table t 1 (refusal-valid number table h k)) (omega (arith, refusal-length number table))

@@ -1,4 +1,5 @@
 pub mod NumberLaws
 pub mod LineLaws
 pub mod CallLaws
+pub mod TextLaws
 pub mod Theorems

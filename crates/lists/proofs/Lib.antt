@@ -3,6 +3,7 @@ pub mod Tests
 pub mod Same
 pub mod Stores
 pub mod Records
+pub mod Fronts
 pub mod Each
 pub mod Written
 pub mod Appended
