@@ -3,6 +3,7 @@ ghost use mathlib.Core.Path.{_≡_};
 ghost use Prim.Native.Nat.{_+_, _*_, _≤_};
 ghost use lib.ListN.{length, take};
 ghost use lib.Seq.{sets};
+ghost use Rattle.rules.specs.SiteTable.{maxSites};
 ghost use Rattle.host.specs.Listing.{summary, verdictLines};
 use circuit::checked::DepthPair;
 use circuit::checked::write_line;
@@ -34,6 +35,7 @@ pub fn write_summary(table: &mut [u32], at: usize, s: Summary)
     write_line(table, at + 6, COUNTS, s.sites, s.kept);
 }
 
+// A function of its own, so that reading a byte asks for its place alone.
 fn verdict_number(verdict: u8) -> u32
     ensures { λ r. ⌜ r ≡ verdict ⌝ }
 {
@@ -43,7 +45,7 @@ fn verdict_number(verdict: u8) -> u32
 // A line for each of the first `count` verdicts, from `at` on.
 pub fn write_verdicts(table: &mut [u32], at: usize, verdicts: &[u8], count: usize)
     requires { ⌜ count ≤ length (now verdicts) ⌝ }
-    requires { ⌜ count ≤ 512 ⌝ }
+    requires { ⌜ count ≤ maxSites ⌝ }
     requires { ⌜ at + 3 * count ≤ length (now table) ⌝ }
     ensures { λ _. ⌜ now (table .exit) ≡ sets (now (table .entry)) at (verdictLines 1 (take count (now (verdicts .entry)))) ⌝ }
 {

@@ -7,17 +7,25 @@ ghost use Prim.Native.Nat.{_+_, _*_, _^_, _<_};
 ghost use Rattle.host.specs.Packing.{packRefusal, packTwo, packFields};
 ghost use Rattle.host.specs.Limits.{EachWithin, fieldLimits};
 
+// What every refusal is above.
+const REFUSAL_BASE: u64 = 1_000_000;
+
+// 2 to the power 32, the place of the higher of two numbers; and 2 to the power 12, that of the next of five.
+const HIGH_PLACE: u64 = 4_294_967_296;
+
+const FIELD_PLACE: u64 = 4096;
+
 pub fn pack_refusal(refusal: Refusal) -> u64
     ensures { λ r. ⌜ r ≡ packRefusal (refusal .number) (refusal .table) ⌝ }
 {
-    1000000 + 10 * (refusal.number as u64) + refusal.table as u64
+    REFUSAL_BASE + 10 * (refusal.number as u64) + refusal.table as u64
 }
 
 // Two numbers, one above the low 32 bits.
 pub fn pack_two(high: u32, low: u32) -> u64
     ensures { λ r. ⌜ r ≡ packTwo high low ⌝ }
 {
-    4294967296 * (high as u64) + low as u64
+    HIGH_PLACE * (high as u64) + low as u64
 }
 
 // One more number behind those that are packed, in 12 bits.
@@ -26,7 +34,7 @@ fn append(packed: u64, value: u32) -> u64
     requires { ⌜ value < 2 ^ 12 ⌝ }
     ensures { λ r. ⌜ r ≡ packed * 2 ^ 12 + value ⌝ }
 {
-    4096 * packed + value as u64
+    FIELD_PLACE * packed + value as u64
 }
 
 // Two pairs and a count, in 12 bits each.
