@@ -1,4 +1,5 @@
-/* Rewrites a circuit by tables: ((2 * 3) * 4) * 5 of four inputs, by the rule from ((v * w) * y) * z to (v * w) * (y * z), at its last gate.
+/* Tries every call on a circuit, ((2 * 3) * 4) * 5 of four inputs, and the rule from ((v * w) * y) * z to (v * w) * (y * z) at its last gate:
+ * by tables, then by texts.
  *
  *   rt staticlib host && cc -Iinclude examples/balance.c target/staticlib/libhost.a -o target/balance && target/balance
  */
@@ -48,11 +49,11 @@ static void expect(const char *what, int holds)
     }
 }
 
-static void print_table(const uint32_t *table, size_t count)
+/* Writes a table as a text, and gives its length. */
+static size_t write_text(const uint32_t *table, size_t count, uint8_t *text, size_t room)
 {
-    static uint8_t text[19 * NAPSPRUCE_TABLE / 3];
-    accepted("write", napspruce_write(table, count, text, sizeof text));
-    fwrite(text, 1, 19 * (count / 3), stdout);
+    accepted("write", napspruce_write(table, count, text, room));
+    return 19 * (count / 3);
 }
 
 /* Both circuits give the same outputs on all inputs. */
@@ -79,6 +80,23 @@ static void translate(const uint32_t *table, size_t count)
     expect("two registers are refused with 10", napspruce_translate(table, count, 2, program, COUNT(program)) == 1000100);
 }
 
+/* The same from texts to a text. The numbers read from the listing are those of the circuit, and then what else was told. */
+static void list(const uint32_t *rewritten, size_t count, const uint32_t *told, size_t told_count)
+{
+    static uint8_t texts[3][19 * 16], listing[NAPSPRUCE_LISTING];
+    static uint32_t numbers[NAPSPRUCE_LISTING / 19 * 3];
+    size_t circuit_len = write_text(circuit, COUNT(circuit), texts[0], sizeof texts[0]);
+    size_t rules_len = write_text(rules, COUNT(rules), texts[1], sizeof texts[1]);
+    size_t sites_len = write_text(sites, COUNT(sites), texts[2], sizeof texts[2]);
+    uint64_t length = accepted("listing", napspruce_listing(texts[0], circuit_len, texts[1], rules_len, texts[2], sites_len,
+                                                            listing, sizeof listing));
+    accepted("read", napspruce_read(listing, length, numbers, COUNT(numbers)));
+    expect("lines", length / 19 * 3 == count + told_count);
+    expect("circuit", memcmp(numbers, rewritten, count * sizeof *numbers) == 0);
+    expect("pairs, counts and verdict", memcmp(numbers + count, told, told_count * sizeof *numbers) == 0);
+    fwrite(listing, 1, length, stdout);
+}
+
 int main(void)
 {
     static uint32_t result[NAPSPRUCE_TABLE], work[NAPSPRUCE_TABLE];
@@ -101,8 +119,7 @@ int main(void)
         7, sites[0], NAPSPRUCE_KEPT(r),
         8, 1, verdicts[0],
     };
-    print_table(result, count);
-    print_table(told, COUNT(told));
+    list(result, count, told, COUNT(told));
 
     uint64_t refusal = napspruce_measure(circuit, COUNT(circuit) - 3);
     expect("a line less is refused with 5, table 1", NAPSPRUCE_IS_REFUSAL(refusal) && refusal == 1000051);
