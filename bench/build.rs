@@ -11,7 +11,7 @@ fn main() {
     if let Ok(folder) = env::var(FOLDER) {
         println!("cargo:rerun-if-changed={folder}/libhost.a");
         println!("cargo:rustc-link-search=native={folder}");
-        println!("cargo:rustc-link-lib=static=host");
+        println!("cargo:rustc-link-lib=static=napspruce");
         println!("cargo:rustc-cfg=product");
     }
 }

@@ -12,5 +12,5 @@ fn main() {
     assert!(library.is_file(), "there is no {}", library.display());
     println!("cargo:rerun-if-changed={}", library.display());
     println!("cargo:rustc-link-search=native={folder}");
-    println!("cargo:rustc-link-lib=static=host");
+    println!("cargo:rustc-link-lib=static=napspruce");
 }

@@ -1,7 +1,7 @@
 // The job of the program `depth_rewriter`, for files of any names.
-use host::listing::MAX_LISTING;
-use host::printing::print_listing;
 use libc::STDOUT_FILENO;
+use napspruce::listing::MAX_LISTING;
+use napspruce::printing::print_listing;
 ghost use Rattle.io.specs.Counts.{Counts};
 
 // As many bytes of a file as count (01, Marked examples, 2).

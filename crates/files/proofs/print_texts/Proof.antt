@@ -1,8 +1,8 @@
 use Prim.Native.Nat.{ℕ}
 use lib.ListN.{replicate}
 use borrow.Author.Needs.{needs}
-use Rattle.host.specs.Printed.{printed}
-use Rattle.host.proofs.CallLaws.{numbers-fit, numbers-count}
+use Rattle.napspruce.specs.Printed.{printed}
+use Rattle.napspruce.proofs.CallLaws.{numbers-fit, numbers-count}
 use Rattle.files.proofs.print_texts.Statement.{statement}
 use Rattle.files.proofs.print_texts.Tie as tie
 

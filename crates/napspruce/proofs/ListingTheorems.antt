@@ -1,0 +1,102 @@
+-- The theorems on the listing and on what the program prints. Assumes nothing.
+use mathlib.Core.Path.{_≡_, refl, sym, ap, ap₂, _∙_}
+use mathlib.Core.List.{List, [], _∷_}
+use Prim.Native.Nat.{ℕ, _-_, _≤_}
+use native.Mathlib.Omega.{arith}
+use lib.ListN.{length}
+use Rattle.lines.specs.Refusal.{Result, refused, gives, Outcome, leaving}
+use Rattle.lines.specs.Text.{writeTable}
+use Rattle.lines.specs.Calls.{over}
+use Rattle.lines.proofs.Theorems.{read-after-write}
+use Rattle.napspruce.specs.Listing.{listingTable}
+use Rattle.napspruce.specs.ListingCall.{maxListing, listTexts, putting, listingOutcome}
+use Rattle.napspruce.specs.Limits.{Within, listingLimits}
+use Rattle.napspruce.specs.Printed.{refusalKind, printedOf, printed}
+use Rattle.napspruce.specs.Theorems.{ListedIsSafe, ListedIsText, RefusalKeepsBuffer, ListingIsPrinted, RefusalIsPrinted, PrintedFits}
+use Rattle.napspruce.proofs.ListingLaws.{listing-valid}
+use Rattle.lines.proofs.TextLaws.{valid-table}
+use Rattle.napspruce.proofs.WriteLaws.{refusal-length}
+use Rattle.napspruce.proofs.LimitLaws.{listing-is-within}
+use Rattle.napspruce.proofs.KnownLaws.{Known, known-tables, known-texts, tables-given, texts-given, texts-room}
+
+-- ---- the listing
+
+pub listed-is-safe : ListedIsSafe
+listed-is-safe circuit rules sites bytes e =
+    let (k, b) = tables-given circuit rules sites bytes e in
+    (k .of-circuit, k .of-rules, k .of-sites, b, k .safe)
+
+pub listed-is-text : ListedIsText
+listed-is-text circuit rules sites bytes e =
+    let (k, b) = tables-given circuit rules sites bytes e in
+    let ok = valid-table (listingTable circuit rules sites) _ (listing-valid circuit rules sites (k .safe) (k .of-circuit) (k .of-sites)) in
+    let (back, text) = read-after-write (listingTable circuit rules sites) ok in
+    let limit : Known (gives bytes) = rw e at (known-tables circuit rules sites) in
+    (rw b text, rw b back, limit .1)
+
+-- ---- the call
+
+module _ (buffer : List ℕ) where
+  put-refused : (x : Result) (number table : ℕ) → putting x buffer .result ≡ refused number table → (x ≡ refused number table) × (putting x buffer .buffer ≡ buffer)
+  put-refused (refused n t) number table e = (e, refl)
+  put-refused (gives bytes) number table e = let z : _≡_ {A = ℕ} 0 1 = cc in absurd (omega arith)
+
+  put-given : (x : Result) (n : ℕ) → putting x buffer .result ≡ gives (n ∷ [])
+      → (n ≡ length (printedOf x)) × (putting x buffer .buffer ≡ over (printedOf x) buffer) × (x ≡ gives (printedOf x))
+  put-given (refused m t) n e = let z : _≡_ {A = ℕ} 0 1 = cc in absurd (omega arith)
+  put-given (gives bytes) n e = (cc, refl, refl)
+
+pub refusal-keeps-buffer : RefusalKeepsBuffer
+unfolding listingOutcome
+refusal-keeps-buffer circuit rules sites buffer number table e = put-refused buffer (listTexts circuit rules sites (length buffer)) number table e .1
+
+-- ---- the program
+
+pub listing-is-printed : ListingIsPrinted
+unfolding listingOutcome printed
+listing-is-printed circuit rules sites buffer n e =
+    let x = listTexts circuit rules sites (length buffer) in
+    let (l, b, g) = put-given buffer x n e in
+    let same : printedOf x ≡ printedOf (listTexts circuit rules sites maxListing) =
+    ap printedOf (texts-room circuit rules sites (length buffer) (texts-given circuit rules sites (length buffer) _ g)) in
+    (l ∙ ap length same, b ∙ ap (λ y. over y buffer) same)
+
+pub refusal-is-printed : RefusalIsPrinted
+unfolding listingOutcome printed
+refusal-is-printed circuit rules sites buffer number table h e =
+    let x = listTexts circuit rules sites (length buffer) in
+    ap printedOf (sym (texts-room circuit rules sites (length buffer) h) ∙ put-refused buffer x number table e .0)
+
+fits-known : (x : Result) → Known x → (19 ≤ length (printedOf x)) × (length (printedOf x) ≤ maxListing)
+fits-known (refused number table) k = let l = refusal-length number table in (omega (arith, l), omega (arith, l))
+fits-known (gives bytes) k = k
+
+pub printed-fits : PrintedFits
+unfolding printed
+printed-fits circuit rules sites = fits-known (listTexts circuit rules sites maxListing) (known-texts circuit rules sites maxListing)
+
+-- ---- for the functions, whose answer x and buffer are those of the call
+
+module _ (circuit rules sites buffer : List ℕ) where
+  pub printed-listing : (n : ℕ) (after : List ℕ) → leaving (gives (n ∷ [])) after ≡ listingOutcome circuit rules sites buffer
+      → (n ≡ length (printed circuit rules sites)) × (after ≡ over (printed circuit rules sites) buffer)
+  printed-listing n after q =
+      let (l, b) = listing-is-printed circuit rules sites buffer n (ap (λ (o : Outcome). o .result) (sym q)) in
+      (l, ap (λ (o : Outcome). o .buffer) q ∙ b)
+
+  module _ (number table : ℕ) (after : List ℕ) (q : leaving (refused number table) after ≡ listingOutcome circuit rules sites buffer) where
+    refused-result : listingOutcome circuit rules sites buffer .result ≡ refused number table
+    refused-result = ap (λ (o : Outcome). o .result) (sym q)
+
+    pub refused-small : (number ≤ 999999) × (table ≤ 999999)
+    refused-small =
+        let k : Within listingLimits (refused number table) = rw refused-result at (listing-is-within circuit rules sites buffer) in
+        (omega (arith, k), omega (arith, k))
+
+    pub printed-refusal : maxListing ≤ length buffer → (n : ℕ) (out : List ℕ) → n ≡ length (writeTable (refusalKind ∷ number ∷ table ∷ []))
+        → out ≡ over (writeTable (refusalKind ∷ number ∷ table ∷ [])) after
+        → (n ≡ length (printed circuit rules sites)) × (out ≡ over (printed circuit rules sites) buffer)
+    printed-refusal room n out l e =
+        let p = sym (refusal-is-printed circuit rules sites buffer number table room refused-result) in
+        let kept : after ≡ buffer = ap (λ (o : Outcome). o .buffer) q ∙ refusal-keeps-buffer circuit rules sites buffer number table refused-result in
+        (l ∙ ap length p, e ∙ ap₂ (λ x y. over x y) p kept)

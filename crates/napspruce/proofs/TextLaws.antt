@@ -1,0 +1,110 @@
+-- Texts: their refusals, and the table that is read of a text's first lines. Assumes nothing.
+use mathlib.Core.Path.{_≡_, refl, sym, ap, _∙_}
+use mathlib.Core.Bool.{Bool, true, false, not}
+use mathlib.Core.List.{List, [], _∷_}
+use Prim.Native.Nat.{ℕ, _+_, _*_, _/_, _≤_, _<_}
+use native.Mathlib.Decide.{decLt}
+use native.Mathlib.Omega.{arith}
+use lib.Dec.{ltb}
+use lib.ListN.{length, take}
+use lib.Seq.{take-all}
+use borrow.Author.Tests.{ltb-true, ltb-false}
+use Rattle.lists.specs.First.{first}
+use Rattle.lists.specs.Records.{allRecords}
+use Rattle.lines.specs.Line.{isLine}
+use Rattle.lines.specs.Text.{isPartial, readText}
+use Rattle.lines.specs.Refusal.{Result, refused, gives, noTable, Outcome, leaving}
+use Rattle.lines.specs.Calls.{over, validation, validating, reading}
+use Rattle.lines.proofs.CallLaws.{Valid, whole-is}
+use Rattle.lines.proofs.TextLaws.{front-valid, front-reads, front-length, front-read, numbers-length}
+use Rattle.napspruce.specs.ListingCall.{refusalNumber, textRefusal}
+use Rattle.napspruce.specs.Front.{front, cut}
+
+-- ---- refusals
+
+module _ (text : List ℕ) where
+  pub accepted-text : textRefusal text ≡ 0 → Valid 19 isLine text (length text / 19)
+  unfolding textRefusal validation
+  accepted-text h = go (isPartial 19 text) (allRecords isLine 19 (length text / 19) text) refl refl h
+    where
+      go : (p a : Bool) → isPartial 19 text ≡ p → allRecords isLine 19 (length text / 19) text ≡ a
+          → refusalNumber (first p (refused 1 noTable) (first (not a) (refused 3 noTable) (gives (length text / 19 ∷ [])))) ≡ 0
+          → Valid 19 isLine text (length text / 19)
+      go true a e f h = absurd (omega (arith, h))
+      go false false e f h = absurd (omega (arith, h))
+      go false true e f h = record { whole = whole-is 19 text e; not-partial = e; right = f }
+
+  pub valid-text : (n : ℕ) → Valid 19 isLine text n → textRefusal text ≡ 0
+  unfolding textRefusal validation
+  valid-text n v =
+      let right : allRecords isLine 19 (length text / 19) text ≡ true = rw (← v .whole .count) (v .right) in
+      rw (v .not-partial, right)
+
+  pub text-valid : (n : ℕ) → validating text ≡ gives (n ∷ []) → 0 ≡ textRefusal text
+  unfolding textRefusal
+  text-valid n e = sym (ap refusalNumber e)
+
+  pub text-refused : (k t : ℕ) → validating text ≡ refused k t → k ≡ textRefusal text
+  unfolding textRefusal
+  text-refused k t e = sym (ap refusalNumber e)
+
+-- ---- a text that is cut
+
+module _ (most : ℕ) (text : List ℕ) (h : textRefusal text ≡ 0) where
+  valid-whole : Valid 19 isLine text (length text / 19)
+  valid-whole = accepted-text text h
+
+  uncut : length text / 19 < most + 1 → cut most text ≡ text
+  uncut l = take-all (19 * (most + 1)) text (omega (arith, valid-whole .whole .long))
+
+  pub cut-accepted : textRefusal (cut most text) ≡ 0
+  cut-accepted =
+      elim (decLt (length text / 19) (most + 1)) [
+        | yes l ↦ ap textRefusal (uncut l) ∙ h
+        | no l ↦ valid-text (cut most text) (most + 1) (front-valid text _ valid-whole (most + 1) (omega arith) (omega arith))
+      ]
+
+  pub cut-read : readText (cut most text) ≡ front most (readText text)
+  cut-read =
+      elim (decLt (length text / 19) (most + 1)) [
+        | yes l ↦ ap readText (uncut l) ∙ sym (take-all (3 * (most + 1)) (readText text) (omega (arith, numbers-length text _ valid-whole)))
+        | no l ↦ front-reads text _ valid-whole (most + 1) (omega arith) (omega arith)
+      ]
+
+-- ---- reading at most `most` lines
+
+pub record FrontRead (text table after : List ℕ) (most count : ℕ) : Type 0 where
+  pub numbers : 3 * count ≡ length (take (3 * most) (readText text))
+  pub left : after ≡ over (take (3 * most) (readText text)) table
+
+module _ (text table : List ℕ) (most count : ℕ) (h : textRefusal text ≡ 0) (some : 1 ≤ most) (room : 3 * most ≤ length table)
+    (c : count ≡ first (ltb (length text / 19) most) (length text / 19) most) where
+  valid : Valid 19 isLine text (length text / 19)
+  valid = accepted-text text h
+
+  pub front-count : (count ≤ most) × (count ≤ length text / 19) × (19 * count ≤ length text) × (0 < count)
+  front-count = go (ltb (length text / 19) most) refl c
+    where
+      go : (b : Bool) → ltb (length text / 19) most ≡ b → count ≡ first b (length text / 19) most
+          → (count ≤ most) × (count ≤ length text / 19) × (19 * count ≤ length text) × (0 < count)
+      go true e q = let l : length text / 19 < most = ltb-true _ _ e in (omega arith, omega arith, omega (arith, valid .whole .long), omega (arith, valid .whole .some))
+      go false e q = let l : most ≤ length text / 19 = ltb-false _ _ e in (omega arith, omega arith, omega (arith, valid .whole .long), omega arith)
+
+  front-same : take (3 * count) (readText text) ≡ take (3 * most) (readText text)
+  front-same = go (ltb (length text / 19) most) refl c
+    where
+      go : (b : Bool) → ltb (length text / 19) most ≡ b → count ≡ first b (length text / 19) most
+          → take (3 * count) (readText text) ≡ take (3 * most) (readText text)
+      go true e q =
+          let l : length text / 19 < most = ltb-true _ _ e in
+          let m = numbers-length text _ valid in
+          take-all (3 * count) (readText text) (omega arith) ∙ sym (take-all (3 * most) (readText text) (omega arith))
+      go false e q = ap (λ j. take (3 * j) (readText text)) q
+
+  pub front-is-read : (r : Result) (after : List ℕ) → leaving r after ≡ reading (take (19 * count) text) table → FrontRead text table after most count
+  front-is-read r after e =
+      let (a, b, d, s) = front-count in
+      record {
+        numbers = sym (ap length (sym front-same) ∙ front-length text _ valid count s b);
+        left = ap (λ (o : Outcome). o .buffer) e ∙ front-read text _ valid count s b table (omega arith) ∙ ap (λ x. over x table) front-same;
+      }

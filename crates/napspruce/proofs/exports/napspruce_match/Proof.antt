@@ -1,0 +1,44 @@
+use mathlib.Core.Path.{refl, ap}
+use borrow.Author.Needs.{needs}
+use Rattle.rules.specs.MatchCall.{paperValues}
+use Rattle.napspruce.specs.Packing.{packOne}
+use Rattle.napspruce.proofs.ExportLaws.{packed-so}
+use Rattle.napspruce.proofs.exports.napspruce_match.Statement.{statement}
+use Rattle.napspruce.proofs.exports.napspruce_match.Tie as tie
+
+match-site-requires : tie.Need-match-site-requires
+match-site-requires c κs = search needs
+
+enum-known-verdict : tie.Need-enum-known-verdict
+enum-known-verdict c = search needs
+
+cast-result : tie.Need-cast-result
+cast-result c = search needs
+
+enum-known-refusal : tie.Need-enum-known-refusal
+enum-known-refusal c = search needs
+
+pack-refusal-requires : tie.Need-pack-refusal-requires
+pack-refusal-requires c κs = search needs
+
+returns : tie.Need-returns
+returns c =
+    let r = c .before .before .before .match-site in
+    packed-so packOne (paperValues (r .result)) _ _ (ap paperValues (c .before .verdict .given .1)) refl _ (r .ensures)
+
+returns-2 : tie.Need-returns-2
+returns-2 c =
+    let r = c .before .before .before .before .match-site in
+    packed-so packOne (paperValues (r .result)) _ _ (ap paperValues (c .before .before .refusal .given .1)) (c .pack-refusal .ensures) _ (r .ensures)
+
+pub napspruce-match-spec : {M : Type 1} → statement M
+napspruce-match-spec =
+    tie.close
+    (tie.spec
+    match-site-requires
+    enum-known-verdict
+    cast-result
+    enum-known-refusal
+    pack-refusal-requires
+    returns
+    returns-2)

@@ -1,0 +1,106 @@
+use mathlib.Core.Path.{sym, ap, _∙_}
+use Prim.Native.Nat.{ℕ}
+use native.Mathlib.Omega.{arith}
+use lib.ListN.{replicate, length-replicate}
+use borrow.Author.Needs.{needs}
+use Rattle.lines.specs.Text.{isTable}
+use Rattle.lines.proofs.CallLaws.{whole-is}
+use Rattle.rules.specs.SiteTable.{siteCount}
+use Rattle.rewriting.specs.RewriteCall.{paperValues as rewrittenValues, Outcome, outcomeOf}
+use Rattle.napspruce.specs.ListingCall.{putting}
+use Rattle.napspruce.proofs.CallLaws.{Rewrote, rewrote, enough-room, listed-done, listed-refused}
+use Rattle.napspruce.proofs.listing.list_tables.Statement.{statement}
+use Rattle.napspruce.proofs.listing.list_tables.Tie as tie
+
+slice-aggregate-rewrite : tie.Need-slice-aggregate-rewrite
+slice-aggregate-rewrite c = search needs
+
+slice-aggregate-rewrite-2 : tie.Need-slice-aggregate-rewrite-2
+slice-aggregate-rewrite-2 c = search needs
+
+slice-aggregate-rewrite-3 : tie.Need-slice-aggregate-rewrite-3
+slice-aggregate-rewrite-3 c = search needs
+
+rewrite-requires : tie.Need-rewrite-requires
+rewrite-requires c κs = search needs
+
+enum-known-lines : tie.Need-enum-known-lines
+enum-known-lines c = search needs
+
+-- what the rewriting has left
+so : (k : tie.After-known-told) → let a = k .before .before .before .before .before .before .before .before .before .before .before .before .before .before .args in let r = k .before .before .before .before .before .before .rewrite in
+    Rewrote (a .circuit .now) (a .rules .now) (a .sites .now) (r .last .1 .1 .1 .0) (r .last .1 .1 .1 .1 .1 .0) (k .before .lines .given .0 .0)
+    (record { old = record { depth = k .before .lines .given .0 .1 .0; critical = k .before .lines .given .0 .1 .1 .0 }; new = record { depth = k .before .lines .given .0 .1 .1 .1 .0; critical = k .before .lines .given .0 .1 .1 .1 .1 .0 }; sites = siteCount (a .sites .now); kept = k .before .lines .given .0 .1 .1 .1 .1 .1 .0 })
+so k =
+    let a = k .before .before .before .before .before .before .before .before .before .before .before .before .before .before .args in
+    let r = k .before .before .before .before .before .before .rewrite in
+    rewrote (a .circuit .now) (a .rules .now) (a .sites .now) (replicate {A = ℕ} 8460 0) (replicate {A = ℕ} 6915 0) (replicate {A = ℕ} 512 0) (r .last .1 .1 .1 .0) (r .last .1 .1 .1 .1 .0)
+    (r .last .1 .1 .1 .1 .1 .0) _ _ _ _ _ _
+    (ap (λ x. outcomeOf (rewrittenValues x) (r .last .1 .1 .1 .0) (r .last .1 .1 .1 .1 .0) (r .last .1 .1 .1 .1 .1 .0)) (sym (k .before .lines .given .1)) ∙ r .ensures)
+
+shared-slice-read-t28 : tie.Need-shared-slice-read-t28
+shared-slice-read-t28 c = let w = whole-is 3 (c .before .before .before .before .before .before .before .before .before .before .before .before .before .before .before .args .sites .now) (c .before .before .before .before .before .before .before .before .before .before .before .before .before .before .before .pre .1 .1 .0) in omega (arith, w .long, w .some)
+
+cast-count : tie.Need-cast-count
+cast-count c = search needs
+
+slice-aggregate-write-listing : tie.Need-slice-aggregate-write-listing
+slice-aggregate-write-listing c = search needs
+
+slice-aggregate-write-listing-2 : tie.Need-slice-aggregate-write-listing-2
+slice-aggregate-write-listing-2 c = search needs
+
+write-listing-requires : tie.Need-write-listing-requires
+write-listing-requires c κs =
+    let k = c .before .before .before .before in
+    let w = so k in
+    let r = k .before .before .before .before .before .before .rewrite in
+    let s = k .before .before .before .before .before .before .before .before .before .before .before .before .before .before in (
+      omega (arith, w .line-limit, w .site-limit, r .kept .1 .1 .1 .0, length-replicate {A = ℕ} 8460 0),
+      (
+        omega (arith, w .site-limit, r .kept .1 .1 .1 .1 .1 .0, length-replicate {A = ℕ} 512 0),
+        (w .site-limit, (ap isTable (w .numbers) ∙ w .writable, omega (arith, w .line-limit, w .site-limit, s .pre .1 .1 .1))),
+      ),
+    )
+
+enum-known-refusal : tie.Need-enum-known-refusal
+enum-known-refusal c = search needs
+
+same-length : tie.Need-same-length
+same-length c = search needs
+
+returns : tie.Need-returns
+returns c =
+    let k = c .before .before .before .before .before .before .before .before in
+    let w = so k in
+    let l = c .before .before .before .write-listing in
+    let a = k .before .before .before .before .before .before .before .before .before .before .before .before .before .before .args in
+    listed-done (a .circuit .now) (a .rules .now) (a .sites .now) (a .listing .now) _ _ _ _ w _ _ (l .ensures .0) (l .ensures .1)
+
+returns-2 : tie.Need-returns-2
+returns-2 c =
+    let s = c .before .before .before .before .before .before .before .before .before .before .before .before .before .before in
+    let a = s .args in
+    let r = c .before .before .before .before .before .before .rewrite in
+    ap (λ x. putting x (a .listing .now))
+    (sym (listed-refused (a .circuit .now) (a .rules .now) (a .sites .now) (replicate {A = ℕ} 8460 0) (replicate {A = ℕ} 6915 0) (replicate {A = ℕ} 512 0) (s .pre .0) (s .pre .1 .0) (s .pre .1 .1 .0)
+    (enough-room 8460 6915 512 (omega arith) (omega arith) (omega arith)) _ _ (ap (λ (o : Outcome). o .answer) (sym (r .ensures)) ∙ ap (λ x. outcomeOf (rewrittenValues x) (r .last .1 .1 .1 .0) (r .last .1 .1 .1 .1 .0) (r .last .1 .1 .1 .1 .1 .0) .answer) (c .before .refusal .given .1))))
+
+pub list-tables-spec : {M : Type 1} → statement M
+list-tables-spec =
+    tie.close
+    (tie.spec
+    slice-aggregate-rewrite
+    slice-aggregate-rewrite-2
+    slice-aggregate-rewrite-3
+    rewrite-requires
+    enum-known-lines
+    shared-slice-read-t28
+    cast-count
+    slice-aggregate-write-listing
+    slice-aggregate-write-listing-2
+    write-listing-requires
+    enum-known-refusal
+    same-length
+    returns
+    returns-2)

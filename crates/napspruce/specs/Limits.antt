@@ -1,0 +1,51 @@
+-- How large the numbers are that the calls give.
+use Prim.Native.Nat.{ℕ, _+_, _≤_}
+use mathlib.Core.List.{List, [], _∷_}
+use Rattle.lines.specs.Refusal.{Result, refused, gives}
+use Rattle.circuit.specs.Circuit.{maxGates, maxOutputs}
+use Rattle.rules.specs.SiteTable.{maxSites}
+use Rattle.translator.specs.Machine.{maxRegisters}
+use Rattle.translator.specs.Program.{maxInstructions}
+use Rattle.napspruce.specs.ListingCall.{maxListing}
+
+-- there are as many numbers as limits, and none is above its own
+abbrev pub EachWithin : (limits values : List ℕ) → Type 0
+EachWithin [] [] = Unit {0}
+EachWithin [] (v ∷ vs) = ⊥
+EachWithin (l ∷ ls) [] = ⊥
+EachWithin (l ∷ ls) (v ∷ vs) = (v ≤ l) × EachWithin ls vs
+
+-- 01, Refusals: ten numbers, and tables 0 to 3; or a success's numbers within their limits
+abbrev pub Within : (limits : List ℕ) → Result → Type 0
+Within limits (refused number table) = (1 ≤ number) × (number ≤ 10) × (table ≤ 3)
+Within limits (gives values) = EachWithin limits values
+
+-- `evaluate`: outputs
+abbrev pub evaluateLimits : List ℕ
+evaluateLimits = maxOutputs ∷ []
+
+-- `measure`: D and N
+abbrev pub measureLimits : List ℕ
+measureLimits = maxGates ∷ maxGates ∷ []
+
+-- `judge` and `match_site`: the verdict
+abbrev pub judgeLimits : List ℕ
+judgeLimits = 2 ∷ []
+
+abbrev pub matchLimits : List ℕ
+matchLimits = 4 ∷ []
+
+-- `rewrite`: both pairs and kept, and before them the lines
+abbrev pub fieldLimits : List ℕ
+fieldLimits = maxGates ∷ maxGates ∷ maxGates ∷ maxGates ∷ maxSites ∷ []
+
+abbrev pub rewriteLimits : List ℕ
+rewriteLimits = (1 + maxGates + maxOutputs) ∷ fieldLimits
+
+-- `translate`: instructions, and the need, which is not above the limit that it was asked for
+abbrev pub translateLimits : List ℕ
+translateLimits = maxInstructions ∷ maxRegisters ∷ []
+
+-- the listing: its length
+abbrev pub listingLimits : List ℕ
+listingLimits = maxListing ∷ []
