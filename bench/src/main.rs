@@ -2,7 +2,7 @@
 //! that both give the same, and prints one table.
 //!
 //! `cargo run --release -- [ROUNDS]`, with `NAPSPRUCE_LIB` naming the folder of
-//! `libhost.a`; without it the plain program is timed alone. The exit code is 1
+//! `libnapspruce.a`; without it the plain program is timed alone. The exit code is 1
 //! if the programs differ anywhere; times are never judged.
 
 use std::env;
