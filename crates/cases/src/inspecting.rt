@@ -2,10 +2,15 @@
 use crate::printing::print_refusal;
 use circuit::Evaluated;
 use circuit::Measured;
+use circuit::checked::MAX_INPUTS;
 use libc::STDOUT_FILENO;
 ghost use mathlib.Core.Path.{_≡_};
-ghost use Prim.Native.Nat.{_≤_};
+ghost use Prim.Native.Nat.{_+_, _≤_};
 ghost use lib.ListN.{length};
+ghost use Rattle.circuit.specs.Circuit.{maxInputs};
+
+// One input byte more than any circuit asks for.
+const PATTERN_BYTES: usize = MAX_INPUTS as usize + 1;
 
 pub fn print_pair(table: &[u32]) {
     match circuit::measure(table) {
@@ -41,18 +46,18 @@ fn pattern_byte(number: usize, i: usize) -> u8 {
     if i % 3 < number { 200 } else { 0 }
 }
 
-pub fn pattern(number: usize) -> [u8; 513]
-    ensures { λ r. ⌜ 513 ≡ length r ⌝ }
+pub fn pattern(number: usize) -> [u8; PATTERN_BYTES]
+    ensures { λ r. ⌜ maxInputs + 1 ≡ length r ⌝ }
 {
-    let mut bytes = [0u8; 513];
-    for i in 0..513 {
+    let mut bytes = [0u8; PATTERN_BYTES];
+    for i in 0..PATTERN_BYTES {
         bytes[i] = pattern_byte(number, i);
     }
     bytes
 }
 
 fn print_pattern(table: &[u32], number: usize, inputs: usize)
-    requires { ⌜ inputs ≤ 513 ⌝ }
+    requires { ⌜ inputs ≤ maxInputs + 1 ⌝ }
 {
     let bytes = pattern(number);
     let mut outputs = [0u8; 256];
@@ -60,7 +65,7 @@ fn print_pattern(table: &[u32], number: usize, inputs: usize)
 }
 
 fn print_short(table: &[u32], inputs: usize)
-    requires { ⌜ inputs ≤ 513 ⌝ }
+    requires { ⌜ inputs ≤ maxInputs + 1 ⌝ }
 {
     let bytes = pattern(0);
     let mut outputs = [0u8; 255];
@@ -69,13 +74,17 @@ fn print_short(table: &[u32], inputs: usize)
 
 // As many input bytes as the table's head asks for, which may say anything.
 pub fn input_count(table: &[u32]) -> usize
-    ensures { λ r. ⌜ r ≤ 512 ⌝ }
+    ensures { λ r. ⌜ r ≤ maxInputs ⌝ }
 {
     if table.len() == 0 {
         return 0;
     }
     let inputs = table[0];
-    if inputs < 512 { inputs as usize } else { 512 }
+    if inputs < MAX_INPUTS {
+        inputs as usize
+    } else {
+        MAX_INPUTS as usize
+    }
 }
 
 pub fn print_evaluations(table: &[u32]) {

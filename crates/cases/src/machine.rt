@@ -1,20 +1,24 @@
 // The register machine of 01, to run what `translate` wrote.
 use crate::printing::print_byte;
 use crate::printing::print_number;
+use circuit::checked::CONSTANTS;
 use libc::STDOUT_FILENO;
-ghost use Prim.Native.Nat.{_<_};
+use translator::MAX_REGISTERS;
+ghost use Prim.Native.Nat.{_<_, _≤_};
+ghost use Rattle.translator.specs.Machine.{maxRegisters};
 
-const REGISTERS: usize = 1024;
+// The largest limit.
+pub const MAX_LIMIT: u32 = MAX_REGISTERS as u32;
 
 // What stands for an empty register, and for the bit of a reference that is neither a constant nor an input.
 const NOTHING: u8 = 2;
 
 // The bit of a constant or an input.
 fn start_bit(inputs: &[u8], reference: u32) -> u8 {
-    if reference < 2 {
+    if reference < CONSTANTS {
         return reference as u8;
     }
-    let k = (reference - 2) as usize;
+    let k = (reference - CONSTANTS) as usize;
     if inputs.len() <= k {
         return NOTHING;
     }
@@ -36,8 +40,13 @@ fn gate_level(kind: u32, a: u32, b: u32) -> u32 {
     level
 }
 
-fn load(bits: &mut [u8; REGISTERS], levels: &mut [u32; REGISTERS], d: usize, bit: u8) -> bool
-    requires { ⌜ d < 1024 ⌝ }
+fn load(
+    bits: &mut [u8; MAX_REGISTERS],
+    levels: &mut [u32; MAX_REGISTERS],
+    d: usize,
+    bit: u8,
+) -> bool
+    requires { ⌜ d < maxRegisters ⌝ }
 {
     bits[d] = bit;
     levels[d] = 0;
@@ -45,16 +54,16 @@ fn load(bits: &mut [u8; REGISTERS], levels: &mut [u32; REGISTERS], d: usize, bit
 }
 
 fn operate(
-    bits: &mut [u8; REGISTERS],
-    levels: &mut [u32; REGISTERS],
+    bits: &mut [u8; MAX_REGISTERS],
+    levels: &mut [u32; MAX_REGISTERS],
     kind: u32,
     d: usize,
     a: usize,
     b: usize,
 ) -> bool
-    requires { ⌜ d < 1024 ⌝ }
-    requires { ⌜ a < 1024 ⌝ }
-    requires { ⌜ b < 1024 ⌝ }
+    requires { ⌜ d < maxRegisters ⌝ }
+    requires { ⌜ a < maxRegisters ⌝ }
+    requires { ⌜ b < maxRegisters ⌝ }
 {
     let x = bits[a];
     let y = bits[b];
@@ -64,8 +73,8 @@ fn operate(
     (x != NOTHING) & (y != NOTHING)
 }
 
-fn emit(bits: &[u8; REGISTERS], levels: &[u32; REGISTERS], a: usize) -> bool
-    requires { ⌜ a < 1024 ⌝ }
+fn emit(bits: &[u8; MAX_REGISTERS], levels: &[u32; MAX_REGISTERS], a: usize) -> bool
+    requires { ⌜ a < maxRegisters ⌝ }
 {
     print_byte(bits[a]);
     print_number(levels[a]);
@@ -74,8 +83,8 @@ fn emit(bits: &[u8; REGISTERS], levels: &[u32; REGISTERS], a: usize) -> bool
 
 // One instruction. It answers false for a fault.
 fn perform(
-    bits: &mut [u8; REGISTERS],
-    levels: &mut [u32; REGISTERS],
+    bits: &mut [u8; MAX_REGISTERS],
+    levels: &mut [u32; MAX_REGISTERS],
     inputs: &[u8],
     limit: u32,
     opcode: u32,
@@ -83,7 +92,7 @@ fn perform(
     second: u32,
     third: u32,
 ) -> bool
-    requires { ⌜ limit < 1025 ⌝ }
+    requires { ⌜ limit ≤ maxRegisters ⌝ }
 {
     if limit <= first {
         return false;
@@ -123,11 +132,11 @@ fn perform(
 
 // Runs a program, and prints a bit and a level an emit.
 pub fn print_run(program: &[u32], limit: u32, inputs: &[u8]) {
-    if 1024 < limit {
+    if MAX_LIMIT < limit {
         return;
     }
-    let mut bits = [NOTHING; REGISTERS];
-    let mut levels = [0u32; REGISTERS];
+    let mut bits = [NOTHING; MAX_REGISTERS];
+    let mut levels = [0u32; MAX_REGISTERS];
     let count = program.len() / 4;
     let mut i: usize = 0;
     while i < count {

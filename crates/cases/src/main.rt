@@ -1,6 +1,7 @@
 // Tries cases. Each is three files that arguments name, a circuit, rules and sites, of which any may be missing. The first is tried as a
 // text of lines, read and written back, and as a circuit, measured, evaluated and translated; the rules are judged; each site is matched;
 // the circuit is rewritten at all sites in order; and last comes what the program `depth_rewriter` prints for the three files.
+use circuit::checked::MAX_TABLE;
 use files::print_files;
 use inspecting::print_evaluations;
 use inspecting::print_pair;
@@ -12,6 +13,7 @@ use matching::print_matches;
 use printing::print_answer;
 use recoding::recode;
 use rewrites::print_rewriting;
+use rules::checked::MAX_SITES;
 use translations::print_short_program;
 use translations::print_translations;
 
@@ -23,6 +25,9 @@ mod printing;
 mod recoding;
 mod rewrites;
 mod translations;
+
+// As many numbers as a table of sites has at most.
+const MAX_SITES_TABLE: usize = 3 * (1 + MAX_SITES as usize);
 
 fn print_name(i: usize) {
     let mut name = io::buffer();
@@ -61,11 +66,11 @@ fn try_circuit(i: usize) {
 
 // Judges the rules, matches the sites, and rewrites the circuit at them.
 fn try_sites(i: usize, j: usize, k: usize) {
-    let mut circuit = [0u32; 6915];
+    let mut circuit = [0u32; MAX_TABLE];
     let gates = read_file(i, &mut circuit);
-    let mut rules = [0u32; 6915];
+    let mut rules = [0u32; MAX_TABLE];
     let patterns = read_file(j, &mut rules);
-    let mut sites = [0u32; 1539];
+    let mut sites = [0u32; MAX_SITES_TABLE];
     let places = read_file(k, &mut sites);
     io::write_all(STDOUT_FILENO, b", judge");
     print_judgements(&rules[..patterns]);

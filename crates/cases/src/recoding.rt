@@ -9,7 +9,7 @@ ghost use Rattle.cases.specs.Recoding.{recoding};
 // Reads a text and writes what was read: by the laws of the lines, the text comes back.
 pub fn recode(text: &[u8], table: &mut [u32], out: &mut [u8]) -> Answer
     ensures { λ r. ⌜ leaving (paperValues r) (now (out .exit)) ≡ recoding (now (text .entry)) (now (table .entry)) (now (out .entry)) ⌝ }
-    ensures { λ _. ⌜ now (table .exit) ≡ reading (now (text .entry)) (now (table .entry)) .buffer ⌝ }
+    ensures { λ _. ⌜ now (table .exit) ≡ reading (now (text .entry)) (now (table .entry)) .buffers ⌝ }
 {
     match lines::read(text, table) {
         Answer::Lines(lines) => {

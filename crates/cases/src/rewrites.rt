@@ -2,8 +2,10 @@
 use crate::printing::print_byte;
 use crate::printing::print_number;
 use crate::printing::print_refusal;
+use circuit::checked::MAX_TABLE;
 use libc::STDOUT_FILENO;
 use rewriting::Rewritten;
+use rules::checked::MAX_SITES;
 
 // What buffers are filled with before: no table has the one, and no verdict is the other.
 const NO_NUMBER: u32 = 4_294_967_295;
@@ -64,9 +66,9 @@ fn print_answer(answer: Rewritten) {
 
 // The answer; the table that was written, and how many numbers were; and the verdicts.
 pub fn print_rewriting(circuit: &[u32], rules: &[u32], sites: &[u32]) {
-    let mut result = [NO_NUMBER; 6916];
-    let mut work = [0u32; 6915];
-    let mut verdicts = [NO_VERDICT; 513];
+    let mut result = [NO_NUMBER; MAX_TABLE + 1];
+    let mut work = [0u32; MAX_TABLE];
+    let mut verdicts = [NO_VERDICT; MAX_SITES as usize + 1];
     print_answer(rewriting::rewrite(circuit, rules, sites, &mut result, &mut work, &mut verdicts));
     io::write_all(STDOUT_FILENO, b" table");
     print_table(&result);

@@ -1,18 +1,21 @@
 // What the call `translate` gives for a table.
 use crate::inspecting::input_count;
 use crate::inspecting::pattern;
+use crate::machine::MAX_LIMIT;
 use crate::machine::print_run;
 use crate::printing::print_number;
 use crate::printing::print_refusal;
 use libc::STDOUT_FILENO;
+use translator::PROGRAM_NUMBERS;
 use translator::Translated;
-ghost use Prim.Native.Nat.{_≤_};
+ghost use Prim.Native.Nat.{_+_, _≤_};
+ghost use Rattle.circuit.specs.Circuit.{maxInputs};
 
 // Limits about as large as small circuits need, and those at both ends of what is allowed.
-const LIMITS: [u32; 9] = [0, 1, 2, 3, 4, 6, 10, 1024, 1025];
+const LIMITS: [u32; 9] = [0, 1, 2, 3, 4, 6, 10, MAX_LIMIT, MAX_LIMIT + 1];
 
 fn print_translation(circuit: &[u32], limit: u32) {
-    let mut program = [0u32; 11272];
+    let mut program = [0u32; PROGRAM_NUMBERS];
     match translator::translate(circuit, limit, &mut program) {
         Translated::Program { instructions, need } => {
             print_number(instructions);
@@ -40,7 +43,7 @@ fn print_program(program: &[u32]) {
 }
 
 fn print_pattern_run(program: &[u32], limit: u32, number: usize, inputs: usize)
-    requires { ⌜ inputs ≤ 513 ⌝ }
+    requires { ⌜ inputs ≤ maxInputs + 1 ⌝ }
 {
     let bytes = pattern(number);
     io::write_all(STDOUT_FILENO, b", run");
@@ -55,8 +58,8 @@ fn print_short(circuit: &[u32], program: &[u32], need: u32) {
 }
 
 pub fn print_short_program(circuit: &[u32]) {
-    let mut program = [0u32; 11272];
-    match translator::translate(circuit, 1024, &mut program) {
+    let mut program = [0u32; PROGRAM_NUMBERS];
+    match translator::translate(circuit, MAX_LIMIT, &mut program) {
         Translated::Program { instructions, need } => {
             if instructions < SHORT {
                 let end = 4 * instructions as usize;

@@ -3,19 +3,19 @@ use mathlib.Core.Path.{_≡_, refl, sym, ap, ap₂, _∙_}
 use mathlib.Core.Logic.{_≢_}
 use mathlib.Core.Bool.{Bool, true, false}
 use mathlib.Core.List.{List, _∷_, _++_}
-use Prim.Native.Nat.{ℕ, _+_, _*_, _≤_, _<_}
+use Prim.Native.Nat.{ℕ, _+_, _≤_, _<_}
 use native.Mathlib.Omega.{arith}
 use lib.Dec.{eqb}
 use lib.ListN.{length, take, drop, getD, set, replicate, length-set, length-drop, length-replicate, take-append-drop}
 use lib.Seq.{getD-take, drop-set-lt, drop-at}
 use Rattle.lists.specs.First.{first}
 use Rattle.lines.specs.Calls.{over}
-use Rattle.circuit.specs.Circuit.{Gate, maxGates, firstGate}
-use Rattle.circuit.specs.Table.{inputs, gates, outputs, refs, gatesFrom, closingsFrom, lineAt, gateLines, decode}
+use Rattle.circuit.specs.Circuit.{Gate, maxGates, firstGate, noGate}
+use Rattle.circuit.specs.Table.{inputs, gates, outputs, refs, gateLines, decode}
 use Rattle.circuit.specs.WellFormed.{WellFormed}
 use Rattle.circuit.specs.Depth.{plusAnd}
 use Rattle.circuit.specs.ReverseDepth.{markOutputs, raise, raiseOperands, raiseGates, reverseDepths}
-use Rattle.circuit.proofs.TableLaws.{gate-step, gates-length, output-step, outputs-length, refs-decode}
+use Rattle.circuit.proofs.TableLaws.{gate-next, gates-length, output-next, outputs-length, refs-decode}
 use Rattle.circuit.proofs.RefusalLaws.{left-below, right-below, output-below}
 use Rattle.circuit.proofs.PassLaws.{mark-more, mark-end, mark-take, raise-none, raise-more, raise-end, raise-take, raise-length, raise-live, zeros-at}
 use Rattle.circuit.proofs.BoundLaws.{mark-bound, raise-bound, reverse-length}
@@ -31,11 +31,10 @@ operands-drop k n g d l r = go (eqb (getD d n 0) 0) (plusAnd (g .kind) (getD d n
     go false x = drop-set-lt k (raise d (g .left) x) (g .right) _ r ∙ drop-set-lt k d (g .left) _ l
 
 -- the two stores of a live gate
-pub raise-both : (n : ℕ) (g : Gate) (d d1 d2 : List ℕ) (kind l r x : ℕ) → getD d n 0 ≢ 0 → kind ≡ g .kind → l ≡ g .left → r ≡ g .right
-    → x ≡ plusAnd kind (getD d n 0) → d1 ≡ raise d l x → d2 ≡ raise d1 r x → d2 ≡ raiseOperands n g d
-raise-both n g d d1 d2 kind l r x ne k p q e f1 f2 =
-    f2 ∙ ap (λ y. raise y r x) f1 ∙ ap₂ (λ a b. raise (raise d a x) b x) p q
-    ∙ ap (λ y. raise (raise d (g .left) y) (g .right) y) (e ∙ ap (λ y. plusAnd y (getD d n 0)) k) ∙ sym (raise-live n g d ne)
+pub raise-both : (n : ℕ) (g : Gate) (d d1 d2 : List ℕ) (x : ℕ) → getD d n 0 ≢ 0
+    → x ≡ plusAnd (g .kind) (getD d n 0) → d1 ≡ raise d (g .left) x → d2 ≡ raise d1 (g .right) x → d2 ≡ raiseOperands n g d
+raise-both n g d d1 d2 x ne e f1 f2 =
+    f2 ∙ ap (λ y. raise y (g .right) x) f1 ∙ ap (λ y. raise (raise d (g .left) y) (g .right) y) e ∙ sym (raise-live n g d ne)
 
 -- the outputs before output i are marked
 pub record MarkedTo (t d₀ d : List ℕ) (i : ℕ) : Type 0 where
@@ -63,19 +62,19 @@ module _ (t d₀ : List ℕ) where
   marked-all d i f h = mark-end (decode t .outputs) d₀ d i (omega (arith, outputs-length t)) (f .marked)
 
   module _ (w : WellFormed t) (d : List ℕ) (i : ℕ) where
-    pub marked-more : MarkedTo t d₀ d i → i < outputs t → (o : ℕ) → o ≡ getD t (closingsFrom t + 3 * i + 1) 0 → MarkedTo t d₀ (set d o 1) (i + 1)
+    pub marked-more : MarkedTo t d₀ d i → i < outputs t → (o : ℕ) → o ≡ getD (decode t .outputs) i 0 → MarkedTo t d₀ (set d o 1) (i + 1)
     marked-more f h o e =
         record {
-          marked = mark-more (decode t .outputs) d₀ d i o (output-step t i h ∙ ap (λ x. x ∷ drop (i + 1) (decode t .outputs)) (sym e)) (f .marked);
+          marked = mark-more (decode t .outputs) d₀ d i o (output-next t i h ∙ ap (λ x. x ∷ drop (i + 1) (decode t .outputs)) (sym e)) (f .marked);
           beyond = drop-set-lt (refs t) d o 1 (omega (arith, output-below t w i h)) ∙ f .beyond;
           long = length-set d o 1 ∙ f .long;
         }
 
     pub raised-more : RaisedFrom t d₀ d i → (d′ : List ℕ) (j : ℕ) → i ≡ j + 1 → j < gates t
-        → d′ ≡ raiseOperands (firstGate (inputs t) + j) (lineAt t (gatesFrom t + 3 * j)) d → RaisedFrom t d₀ d′ j
+        → d′ ≡ raiseOperands (firstGate (inputs t) + j) (getD (decode t .gates) j noGate) d → RaisedFrom t d₀ d′ j
     raised-more f d′ j q h e =
-        let g = lineAt t (gatesFrom t + 3 * j) in
-        let r = e ∙ raise-more (firstGate (inputs t)) (gateLines t) d₀ d i j g q (gate-step t j h) (f .raised) in
+        let g = getD (decode t .gates) j noGate in
+        let r = e ∙ raise-more (firstGate (inputs t)) (gateLines t) d₀ d i j g q (gate-next t j h) (f .raised) in
         record {
           raised = r;
           beyond =

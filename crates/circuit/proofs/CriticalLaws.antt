@@ -2,20 +2,20 @@
 use mathlib.Core.Path.{_≡_, refl, sym, ap, ap₂, _∙_}
 use mathlib.Core.Bool.{Bool, true, false, _&&_}
 use mathlib.Core.List.{List}
-use Prim.Native.Nat.{ℕ, _+_, _*_, _-_, _≤_, _<_}
+use Prim.Native.Nat.{ℕ, _+_, _-_, _≤_, _<_}
 use native.Mathlib.Omega.{arith}
 use lib.Dec.{eqb, ltb}
 use lib.ListN.{take, drop, getD}
 use borrow.Author.Tests.{lt-ltb, le-ltb}
 use Rattle.lists.proofs.Maps.{take-read}
-use Rattle.circuit.specs.Circuit.{andKind, maxGates, firstGate}
-use Rattle.circuit.specs.Table.{inputs, gates, refs, gatesFrom, lineAt, gateLines, decode}
+use Rattle.circuit.specs.Circuit.{Gate, maxGates, maxDepth, firstGate, noGate}
+use Rattle.circuit.specs.Table.{inputs, gates, refs, gateLines, decode}
 use Rattle.circuit.specs.WellFormed.{WellFormed}
 use Rattle.circuit.specs.Each.{countGates}
-use Rattle.circuit.specs.Depth.{depths, circuitDepth}
+use Rattle.circuit.specs.Depth.{isCounted, depths, circuitDepth}
 use Rattle.circuit.specs.ReverseDepth.{reverseDepths}
 use Rattle.circuit.specs.Critical.{isCritical, criticalCount}
-use Rattle.circuit.proofs.TableLaws.{gate-step, gates-length}
+use Rattle.circuit.proofs.TableLaws.{gate-next, gates-length}
 use Rattle.circuit.proofs.EachLaws.{count-none, count-pass, count-skip, count-end, count-le}
 use Rattle.circuit.proofs.BoundLaws.{depth-le, reverse-le}
 
@@ -38,11 +38,11 @@ module _ (t : List ℕ) where
   counted-none = count-none (isCritical (decode t)) (firstGate (inputs t)) (gateLines t)
 
   module _ (i count : ℕ) (inv : CountedTo t count i) where
-    pub counted-pass : i < gates t → isCritical (decode t) (firstGate (inputs t) + i) (lineAt t (gatesFrom t + 3 * i)) ≡ true → CountedTo t (count + 1) (i + 1)
-    counted-pass h e = count-pass (isCritical (decode t)) (firstGate (inputs t)) (gateLines t) i count inv (lineAt t (gatesFrom t + 3 * i)) (gate-step t i h) e
+    pub counted-pass : i < gates t → isCritical (decode t) (firstGate (inputs t) + i) (getD (decode t .gates) i noGate) ≡ true → CountedTo t (count + 1) (i + 1)
+    counted-pass h e = count-pass (isCritical (decode t)) (firstGate (inputs t)) (gateLines t) i count inv (getD (decode t .gates) i noGate) (gate-next t i h) e
 
-    pub counted-skip : i < gates t → isCritical (decode t) (firstGate (inputs t) + i) (lineAt t (gatesFrom t + 3 * i)) ≡ false → CountedTo t count (i + 1)
-    counted-skip h e = count-skip (isCritical (decode t)) (firstGate (inputs t)) (gateLines t) i count inv (lineAt t (gatesFrom t + 3 * i)) (gate-step t i h) e
+    pub counted-skip : i < gates t → isCritical (decode t) (firstGate (inputs t) + i) (getD (decode t .gates) i noGate) ≡ false → CountedTo t count (i + 1)
+    counted-skip h e = count-skip (isCritical (decode t)) (firstGate (inputs t)) (gateLines t) i count inv (getD (decode t .gates) i noGate) (gate-next t i h) e
 
     pub counted-all : gates t ≤ i → count ≡ criticalCount (decode t)
     unfolding criticalCount
@@ -51,26 +51,25 @@ module _ (t : List ℕ) where
     pub count-limit : WellFormed t → count ≤ maxGates
     count-limit w = omega (arith, count-le (isCritical (decode t)) (firstGate (inputs t)) (gateLines t), gates-length t, w .sized .gates-limit)
 
--- gate i, by the arrays
-module _ (t d u : List ℕ) (w : WellFormed t) (e : take (refs t) d ≡ depths (decode t)) (f : take (refs t) u ≡ reverseDepths (decode t)) (i : ℕ) (h : i < gates t) where
-  depth-read : getD d (firstGate (inputs t) + i) 0 ≡ getD (depths (decode t)) (firstGate (inputs t) + i) 0
-  depth-read = take-read (refs t) d (depths (decode t)) (firstGate (inputs t) + i) 0 e (omega arith)
+-- gate i, of reference v, by the arrays
+module _ (t d u : List ℕ) (w : WellFormed t) (e : take (refs t) d ≡ depths (decode t)) (f : take (refs t) u ≡ reverseDepths (decode t))
+    (i : ℕ) (h : i < gates t) (v : ℕ) (n : v ≡ firstGate (inputs t) + i) where
+  depth-read : getD d v 0 ≡ getD (depths (decode t)) v 0
+  depth-read = take-read (refs t) d (depths (decode t)) v 0 e (omega arith)
 
-  reverse-read : getD u (firstGate (inputs t) + i) 0 ≡ getD (reverseDepths (decode t)) (firstGate (inputs t) + i) 0
-  reverse-read = take-read (refs t) u (reverseDepths (decode t)) (firstGate (inputs t) + i) 0 f (omega arith)
+  reverse-read : getD u v 0 ≡ getD (reverseDepths (decode t)) v 0
+  reverse-read = take-read (refs t) u (reverseDepths (decode t)) v 0 f (omega arith)
 
-  pub depth-fits : getD d (firstGate (inputs t) + i) 0 ≤ maxGates
-  depth-fits = omega (arith, depth-read, depth-le (decode t) (firstGate (inputs t) + i), gates-length t, w .sized .gates-limit)
+  pub depth-fits : getD d v 0 ≤ maxDepth
+  depth-fits = omega (arith, depth-read, depth-le (decode t) v, gates-length t, w .sized .gates-limit)
 
-  pub reverse-fits : getD u (firstGate (inputs t) + i) 0 ≤ maxGates + 1
-  reverse-fits = omega (arith, reverse-read, reverse-le (decode t) (firstGate (inputs t) + i), gates-length t, w .sized .gates-limit)
+  pub reverse-fits : getD u v 0 ≤ maxGates + 1
+  reverse-fits = omega (arith, reverse-read, reverse-le (decode t) v, gates-length t, w .sized .gates-limit)
 
-  pub critical-read : (kind deepest : ℕ) (b : Bool) → kind ≡ getD t (gatesFrom t + 3 * i) 0 → deepest ≡ circuitDepth (decode t)
-      → b ≡ (eqb kind andKind
-      && (ltb 0 (getD u (firstGate (inputs t) + i) 0)
-      && eqb (getD d (firstGate (inputs t) + i) 0 + (getD u (firstGate (inputs t) + i) 0 - 1)) deepest))
-      → b ≡ isCritical (decode t) (firstGate (inputs t) + i) (lineAt t (gatesFrom t + 3 * i))
-  critical-read kind deepest b k q e =
-      let v = firstGate (inputs t) + i in
-      e ∙ ap₂ (λ a z. eqb a andKind && (ltb 0 (getD u v 0) && eqb (getD d v 0 + (getD u v 0 - 1)) z)) k q
-      ∙ ap₂ (λ x y. eqb (getD t (gatesFrom t + 3 * i) 0) andKind && (ltb 0 y && eqb (x + (y - 1)) (circuitDepth (decode t)))) depth-read reverse-read
+  pub critical-read : (g : Gate) (deepest : ℕ) (b : Bool) → g ≡ getD (decode t .gates) i noGate → deepest ≡ circuitDepth (decode t)
+      → b ≡ (isCounted (g .kind) && (ltb 0 (getD u v 0) && eqb (getD d v 0 + (getD u v 0 - 1)) deepest))
+      → b ≡ isCritical (decode t) (firstGate (inputs t) + i) (getD (decode t .gates) i noGate)
+  critical-read g deepest b k q e =
+      e ∙ ap₂ (λ a z. isCounted (a .kind) && (ltb 0 (getD u v 0) && eqb (getD d v 0 + (getD u v 0 - 1)) z)) k q
+      ∙ ap₂ (λ x y. isCounted (getD (decode t .gates) i noGate .kind) && (ltb 0 y && eqb (x + (y - 1)) (circuitDepth (decode t)))) depth-read reverse-read
+      ∙ ap (λ k. isCritical (decode t) k (getD (decode t .gates) i noGate)) n

@@ -1,17 +1,17 @@
 -- The loops over depths: filling a buffer with them, and the largest of the outputs. Assumes nothing.
-use mathlib.Core.Path.{_≡_, sym, ap, ap₂, _∙_}
+use mathlib.Core.Path.{_≡_, sym, ap, _∙_}
 use mathlib.Core.List.{List, _∷_, map}
-use Prim.Native.Nat.{ℕ, _+_, _*_, _≤_, _<_, max}
+use Prim.Native.Nat.{ℕ, _+_, _≤_, _<_, max}
 use native.Mathlib.Omega.{arith}
 use lib.ListN.{length, take, drop, getD, set, replicate, length-replicate}
 use Rattle.lists.proofs.Maps.{take-read}
 use Rattle.lines.specs.Calls.{over}
-use Rattle.circuit.specs.Circuit.{maxGates, firstGate}
-use Rattle.circuit.specs.Table.{inputs, gates, outputs, refs, gatesFrom, closingsFrom, lineAt, gateLines, decode}
+use Rattle.circuit.specs.Circuit.{Gate, maxDepth, firstGate, noGate}
+use Rattle.circuit.specs.Table.{inputs, gates, outputs, refs, gateLines, decode}
 use Rattle.circuit.specs.WellFormed.{WellFormed}
 use Rattle.circuit.specs.Fold.{gateValue}
 use Rattle.circuit.specs.Depth.{depthOp, startDepths, depths, depth, largest, circuitDepth}
-use Rattle.circuit.proofs.TableLaws.{gate-step, gates-length, output-step, outputs-length, refs-decode}
+use Rattle.circuit.proofs.TableLaws.{gate-next, gates-length, output-next, outputs-length, refs-decode}
 use Rattle.circuit.proofs.RefusalLaws.{left-below, right-below, output-below}
 use Rattle.circuit.proofs.BoundLaws.{depth-le, depths-length}
 use Rattle.circuit.proofs.LoopLaws.{value-read, largest-more, largest-end}
@@ -27,7 +27,7 @@ module _ (t d₀ : List ℕ) where
   depths-none e = filled-over-none (gateValue depthOp 0) (gateLines t) (startDepths (inputs t)) (firstGate (inputs t)) d₀ e
 
   module _ (w : WellFormed t) (fits : refs t ≤ length d₀) (d : List ℕ) (i : ℕ) (f : DepthsTo t d₀ d i) where
-    pub depth-limit : i ≤ gates t → (k : ℕ) → k < firstGate (inputs t) + i → getD d k 0 ≤ maxGates
+    pub depth-limit : i ≤ gates t → (k : ℕ) → k < firstGate (inputs t) + i → getD d k 0 ≤ maxDepth
     unfolding depths
     depth-limit h k l =
         omega (
@@ -38,14 +38,14 @@ module _ (t d₀ : List ℕ) where
           w .sized .gates-limit,
         )
 
-    pub depths-more : i < gates t → (v kind l r : ℕ) → kind ≡ getD t (gatesFrom t + 3 * i) 0 → l ≡ getD t (gatesFrom t + 3 * i + 1) 0
-        → r ≡ getD t (gatesFrom t + 3 * i + 2) 0 → v ≡ depthOp kind (getD d l 0) (getD d r 0)
-        → DepthsTo t d₀ (set d (firstGate (inputs t) + i) v) (i + 1)
-    depths-more h v kind l r k x y e =
-        let g = lineAt t (gatesFrom t + 3 * i) in
-        filled-over-more (gateValue depthOp 0) (gateLines t) (startDepths (inputs t)) (firstGate (inputs t)) d₀ d i f v g (gate-step t i h) (omega arith)
-        (e ∙ ap (λ n. depthOp n (getD d l 0) (getD d r 0)) k ∙ ap₂ (λ a b. depthOp (g .kind) (getD d a 0) (getD d b 0)) x y
-        ∙ value-read depthOp 0 g (firstGate (inputs t) + i) d (left-below t w i h) (right-below t w i h))
+    pub depths-more : i < gates t → (m : ℕ) → m ≡ firstGate (inputs t) → (v : ℕ) (g : Gate) → g ≡ getD (decode t .gates) i noGate
+        → v ≡ depthOp (g .kind) (getD d (g .left) 0) (getD d (g .right) 0) → DepthsTo t d₀ (set d (m + i) v) (i + 1)
+    depths-more h m n v g q e =
+        let x = getD (decode t .gates) i noGate in
+        rw n
+        (filled-over-more (gateValue depthOp 0) (gateLines t) (startDepths (inputs t)) (firstGate (inputs t)) d₀ d i f v x (gate-next t i h) (omega arith)
+        (e ∙ ap (λ y. depthOp (y .kind) (getD d (y .left) 0) (getD d (y .right) 0)) q
+        ∙ value-read depthOp 0 x (firstGate (inputs t) + i) d (left-below t w i h) (right-below t w i h)))
 
     pub depths-all : i ≤ gates t → gates t ≤ i → d ≡ over (depths (decode t)) d₀
     unfolding depths
@@ -66,13 +66,13 @@ depths-front t d₀ d e = ap (take (refs t)) e ∙ over-take (depths (decode t))
 -- one output more in the largest depth
 module _ (t d : List ℕ) (w : WellFormed t) (e : take (refs t) d ≡ depths (decode t)) where
   pub deepest-more : (i x : ℕ) → max x (largest (map (depth (decode t)) (drop i (decode t .outputs)))) ≡ largest (map (depth (decode t)) (decode t .outputs))
-      → i < outputs t → (o x′ : ℕ) → o ≡ getD t (closingsFrom t + 3 * i + 1) 0 → x′ ≡ max x (getD d o 0)
+      → i < outputs t → (o x′ : ℕ) → o ≡ getD (decode t .outputs) i 0 → x′ ≡ max x (getD d o 0)
       → max x′ (largest (map (depth (decode t)) (drop (i + 1) (decode t .outputs)))) ≡ largest (map (depth (decode t)) (decode t .outputs))
   deepest-more i x inv h o x′ p q =
       let os = decode t .outputs in
       let r : x′ ≡ max x (depth (decode t) o) = q ∙ ap (max x) (take-read (refs t) d (depths (decode t)) o 0 e (omega (arith, output-below t w i h))) in
       ap (λ y. max y (largest (map (depth (decode t)) (drop (i + 1) os)))) r
-      ∙ largest-more (depth (decode t)) os i x inv o (output-step t i h ∙ ap (λ y. y ∷ drop (i + 1) os) (sym p))
+      ∙ largest-more (depth (decode t)) os i x inv o (output-next t i h ∙ ap (λ y. y ∷ drop (i + 1) os) (sym p))
 
   pub deepest-all : (i x : ℕ) → max x (largest (map (depth (decode t)) (drop i (decode t .outputs)))) ≡ largest (map (depth (decode t)) (decode t .outputs))
       → outputs t ≤ i → x ≡ circuitDepth (decode t)

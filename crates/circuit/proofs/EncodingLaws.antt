@@ -100,7 +100,7 @@ module _ (c : Circuit) where
 
 pub decode-after-encode : DecodeAfterEncode
 unfolding encode
-decode-after-encode c =
+decode-after-encode c k =
     ap₂ (λ g o. record { inputs = c .inputs; gates = g; outputs = o }) (encode-gate-lines c) (ap (map reference) (encode-closing-lines c) ∙ map-closing (c .outputs))
 
 -- a table of at least one line, by its head and the rest

@@ -15,7 +15,7 @@ use Rattle.circuit.specs.WellFormed.{WellFormed}
 use Rattle.circuit.specs.Fold.{gateValue}
 use Rattle.circuit.specs.Depth.{largest}
 use Rattle.circuit.specs.ReverseDepth.{reverseDepths}
-use Rattle.circuit.specs.Trim.{renameGate, rank, ranks, keepGates, isKept, trim, trimOf}
+use Rattle.circuit.specs.Trim.{renameGate, rank, ranks, keepGates, isKept, trimmedGates, trimmedOutputs, trim, trimOf}
 use Rattle.circuit.proofs.TableLaws.{outputs-length, refs-decode}
 use Rattle.circuit.proofs.ValidLaws.{valid-decode}
 use Rattle.circuit.proofs.EncodingLaws.{encode-cons}
@@ -65,15 +65,15 @@ module _ (f : ℕ → ℕ) (os : List ℕ) where
 
 -- the head, then what is appended to it
 pub trim-lines : (t : List ℕ)
-    → trimOf t ≡ inputs t ∷ length (keepGates (isKept (decode t)) (firstGate (inputs t)) (gateLines t)) ∷ outputs t
-    ∷ (encodeLines (keepGates (isKept (decode t)) (firstGate (inputs t)) (gateLines t))
-    ++ encodeLines (map closingLine (map (rank (isKept (decode t))) (decode t .outputs))))
+    → trimOf t ≡ inputs t ∷ length (trimmedGates (decode t)) ∷ outputs t
+    ∷ (encodeLines (trimmedGates (decode t))
+    ++ encodeLines (map closingLine (trimmedOutputs (decode t))))
 unfolding encode trim
 trim-lines t = rw (length-map (decode t .outputs) (rank (isKept (decode t))), outputs-length t)
 
 -- how many gates are kept, by the rank behind the last reference
 pub trim-count : (t : List ℕ) → WellFormed t
-    → rank (isKept (decode t)) (refs t) ≡ firstGate (inputs t) + length (keepGates (isKept (decode t)) (firstGate (inputs t)) (gateLines t))
+    → rank (isKept (decode t)) (refs t) ≡ firstGate (inputs t) + length (trimmedGates (decode t))
 trim-count t w =
     let c = decode t in
     omega (arith, keep-count (isKept c) (firstGate (inputs t)) (gateLines t), rank-first c (valid-decode t w), ap (rank (isKept c)) (refs-decode t))

@@ -1,8 +1,8 @@
 -- Live and above are what 01's paths say. Assumes nothing.
-use mathlib.Core.Path.{_≡_, refl, sym, _∙_}
+use mathlib.Core.Path.{_≡_, refl, sym, _∙_, subst}
 use mathlib.Core.Bool.{Bool, true, false, _&&_}
 use mathlib.Core.List.{List, [], _∷_}
-use Prim.Native.Nat.{ℕ, suc, _+_, _-_, _<_}
+use Prim.Native.Nat.{ℕ, suc, _+_, _-_, _≤_, _<_}
 use native.Mathlib.Nat.{suc-ne-zero}
 use native.Mathlib.Omega.{arith}
 use lib.Dec.{leb, ltb}
@@ -13,8 +13,9 @@ use Rattle.lists.proofs.Tests.{both, left-of, right-of}
 use Rattle.circuit.specs.Circuit.{Circuit, noGate, firstGate, references, gateAt}
 use Rattle.circuit.specs.Table.{decode}
 use Rattle.circuit.specs.Path.{isAmong, isGate, isOperand, isPath, andsOn}
+use Rattle.circuit.specs.Depth.{plusAnd}
 use Rattle.circuit.specs.ReverseDepth.{reverseDepth, isLive, above}
-use Rattle.circuit.specs.Theorems.{LiveIsReached, AboveIsLargest}
+use Rattle.circuit.specs.Theorems.{LiveIsReached, AboveIsLargest, OperandsOfLive}
 use Rattle.circuit.proofs.EachLaws.{each-at, each-of}
 use Rattle.circuit.proofs.ValidLaws.{Valid, valid-decode}
 use Rattle.circuit.proofs.ReverseDepthLaws.{ands, plus-ands, handed-lt, handed-down, marked, reached, reverse-at, live-output}
@@ -73,3 +74,13 @@ above-is-largest t w v e =
     let c = decode t in
     let ok = valid-decode t w in
     (path-live c ok v e, λ path p. omega (arith, path-below c ok v path p))
+
+-- the gate's longest path, and the gate before it
+pub operands-of-live : OperandsOfLive
+unfolding isPath andsOn
+operands-of-live t w v g gate operand live =
+    let c = decode t in
+    let (path, p, most) = above-is-largest t w g live .0 in
+    let up : isPath c v (g ∷ path) ≡ true = both {a = isGate c g} gate (both {a = isOperand v (gateAt c g)} operand p) in
+    let there = live-is-reached t w v .1 (g ∷ path, up) in
+    (there, subst (λ x. plusAnd (gateAt c g .kind) x ≤ above c v) most (above-is-largest t w v there .1 (g ∷ path) up))

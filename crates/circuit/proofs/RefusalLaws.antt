@@ -3,7 +3,7 @@ use mathlib.Core.Path.{_≡_, refl}
 use mathlib.Core.Logic.{_⊎_, inl, inr}
 use mathlib.Core.Bool.{Bool, true, false, not, _&&_, _||_}
 use mathlib.Core.List.{List}
-use Prim.Native.Nat.{ℕ, suc, _+_, _*_, _%_, _≤_, _<_}
+use Prim.Native.Nat.{ℕ, suc, _+_, _%_, _≤_, _<_}
 use native.Mathlib.Omega.{arith}
 use lib.Dec.{eqb, leb, ltb}
 use lib.ListN.{length, getD}
@@ -12,12 +12,12 @@ use Rattle.lists.specs.First.{first}
 use Rattle.lists.proofs.Tests.{both, left-of, right-of}
 use Rattle.lines.specs.Text.{isPartial}
 use Rattle.lines.proofs.CallLaws.{whole-is}
-use Rattle.circuit.specs.Circuit.{xorKind, andKind, maxInputs, maxGates, maxOutputs, firstGate}
-use Rattle.circuit.specs.Table.{inputs, gates, outputs, refs, gatesFrom, closingsFrom, tableEnd, lineAt, gateLines, closingLines}
-use Rattle.circuit.specs.Refusal.{headInLimits, linesAsHeadSays, hasGateKind, gateKindsOk, closingKindsOk, operandsBelow, referenceBelow, operandsOk, closingReferencesOk, refusal}
+use Rattle.circuit.specs.Circuit.{xorKind, andKind, maxInputs, maxGates, maxOutputs, firstGate, noGate}
+use Rattle.circuit.specs.Table.{inputs, gates, outputs, refs, closingsFrom, tableEnd, gateLines, closingLines, decode}
+use Rattle.circuit.specs.Refusal.{headInLimits, linesAsHeadSays, gateKindsOk, closingKindsOk, operandsBelow, referenceBelow, operandsOk, closingReferencesOk, refusal}
 use Rattle.circuit.specs.WellFormed.{Sized, WellFormed}
 use Rattle.circuit.specs.Theorems.{AcceptedIsWellFormed}
-use Rattle.circuit.proofs.TableLaws.{gate-step, closing-step}
+use Rattle.circuit.proofs.TableLaws.{closing-step, output-at, gate-next}
 use Rattle.circuit.proofs.EachLaws.{all-at}
 
 -- a chain of refusals that gives 0: its first test doesn't apply
@@ -122,23 +122,22 @@ module _ (t : List ℕ) where
           unfolding refusal
           refusal-none e = rw (w, h, l, k, e)
 
-  -- ---- each line, at the places that loops read
+  -- ---- each gate and output of the circuit, wherever its line stands
 
   module _ (w : WellFormed t) (i : ℕ) where
-    pub gate-kind : i < gates t → (getD t (gatesFrom t + 3 * i) 0 ≡ xorKind) ⊎ (getD t (gatesFrom t + 3 * i) 0 ≡ andKind)
-    gate-kind h = either (getD t (gatesFrom t + 3 * i) 0) (all-at hasGateKind (firstGate (inputs t)) (gateLines t) i _ (w .gate-kinds) (gate-step t i h))
+    operand : i < gates t → operandsBelow (firstGate (inputs t) + i) (getD (decode t .gates) i noGate) ≡ true
+    operand h = all-at operandsBelow (firstGate (inputs t)) (gateLines t) i _ (w .operands) (gate-next t i h)
 
-    operand : i < gates t → operandsBelow (firstGate (inputs t) + i) (lineAt t (gatesFrom t + 3 * i)) ≡ true
-    operand h = all-at operandsBelow (firstGate (inputs t)) (gateLines t) i _ (w .operands) (gate-step t i h)
+    pub left-below : i < gates t → getD (decode t .gates) i noGate .left < firstGate (inputs t) + i
+    left-below h = ltb-true _ _ (left-of _ (ltb (getD (decode t .gates) i noGate .right) (firstGate (inputs t) + i)) (operand h))
 
-    pub left-below : i < gates t → getD t (gatesFrom t + 3 * i + 1) 0 < firstGate (inputs t) + i
-    left-below h = ltb-true _ _ (left-of _ (ltb (getD t (gatesFrom t + 3 * i + 2) 0) (firstGate (inputs t) + i)) (operand h))
+    pub right-below : i < gates t → getD (decode t .gates) i noGate .right < firstGate (inputs t) + i
+    right-below h = ltb-true _ _ (right-of (ltb (getD (decode t .gates) i noGate .left) (firstGate (inputs t) + i)) _ (operand h))
 
-    pub right-below : i < gates t → getD t (gatesFrom t + 3 * i + 2) 0 < firstGate (inputs t) + i
-    right-below h = ltb-true _ _ (right-of (ltb (getD t (gatesFrom t + 3 * i + 1) 0) (firstGate (inputs t) + i)) _ (operand h))
-
-    pub output-below : i < outputs t → getD t (closingsFrom t + 3 * i + 1) 0 < refs t
-    output-below h = ltb-true _ _ (all-at (referenceBelow (refs t)) 0 (closingLines t) i _ (w .closing-references) (closing-step t i h))
+    pub output-below : i < outputs t → getD (decode t .outputs) i 0 < refs t
+    output-below h =
+        rw (output-at t i (closingsFrom t) refl h)
+        (ltb-true _ _ (all-at (referenceBelow (refs t)) 0 (closingLines t) i _ (w .closing-references) (closing-step t i (closingsFrom t) refl h)))
 
 pub accepted-is-well-formed : AcceptedIsWellFormed
 accepted-is-well-formed t = (accepted t, well-formed-accepted t)

@@ -1,14 +1,14 @@
--- Lines of a table: what loops over gate lines and closing lines, and readers of what they say, need. Assumes nothing.
+-- Lines of a table, and the gates and outputs that they say: what loops over them, and readers of them, need. Assumes nothing.
 use mathlib.Core.Path.{_≡_, refl, sym, ap, ap₂, _∙_}
-use mathlib.Core.List.{List, _∷_, map}
+use mathlib.Core.List.{List, _∷_}
 use Prim.Native.Nat.{ℕ, zero, suc, _+_, _*_, _<_}
-use native.Mathlib.Nat.{not-suc-le-zero, le-of-suc-le-suc}
+use native.Mathlib.Nat.{add-zero, not-suc-le-zero, le-of-suc-le-suc}
 use native.Mathlib.Numerals.{add-one}
 use native.Mathlib.Omega.{arith}
 use lib.ListN.{length, drop, getD, length-map}
-use lib.Seq.{getD-drop}
-use Rattle.lists.proofs.Maps.{map-drop, map-step}
-use Rattle.circuit.specs.Circuit.{references}
+use lib.Seq.{getD-drop, drop-cons}
+use Rattle.lists.proofs.Maps.{map-step}
+use Rattle.circuit.specs.Circuit.{references, noGate}
 use Rattle.circuit.specs.Table.{gates, outputs, refs, gatesFrom, closingsFrom, lineAt, linesOf, gateLines, closingLines, reference, decode}
 
 pub line-drop : (k p : ℕ) (t : List ℕ) → lineAt (drop k t) p ≡ lineAt t (k + p)
@@ -48,25 +48,25 @@ module _ (t : List ℕ) where
   refs-decode = rw gates-length
 
   module _ (i : ℕ) where
-    pub gate-step : i < gates t → drop i (gateLines t) ≡ lineAt t (gatesFrom t + 3 * i) ∷ drop (i + 1) (gateLines t)
-    gate-step h = step-from (gatesFrom t) (gates t) t i h
+    -- line i, for loops that have the place where the lines begin in a variable
+    pub gate-step : (p : ℕ) → p ≡ gatesFrom t → i < gates t → drop i (gateLines t) ≡ lineAt t (p + 3 * i) ∷ drop (i + 1) (gateLines t)
+    gate-step p e h = rw e (step-from (gatesFrom t) (gates t) t i h)
 
-    pub closing-step : i < outputs t → drop i (closingLines t) ≡ lineAt t (closingsFrom t + 3 * i) ∷ drop (i + 1) (closingLines t)
-    closing-step h = step-from (closingsFrom t) (outputs t) t i h
+    pub closing-step : (p : ℕ) → p ≡ closingsFrom t → i < outputs t → drop i (closingLines t) ≡ lineAt t (p + 3 * i) ∷ drop (i + 1) (closingLines t)
+    closing-step p e h = rw e (step-from (closingsFrom t) (outputs t) t i h)
 
-    -- the same, for loops that have the place where the lines begin in a variable
-    pub gate-step-from : (p : ℕ) → p ≡ gatesFrom t → i < gates t → drop i (gateLines t) ≡ lineAt t (p + 3 * i) ∷ drop (i + 1) (gateLines t)
-    gate-step-from p e h = rw e (gate-step h)
+    -- gate i and output i of the circuit, by the places that code reads
+    pub gate-at : (p : ℕ) → p ≡ gatesFrom t → i < gates t → getD (decode t .gates) i noGate ≡ lineAt t (p + 3 * i)
+    gate-at p e h =
+        ap (λ k. getD (gateLines t) k noGate) (sym (add-zero i)) ∙ sym (getD-drop i (gateLines t) 0 noGate)
+        ∙ ap (λ l. getD l 0 noGate) (gate-step p e h)
 
-    pub closing-step-from : (p : ℕ) → p ≡ closingsFrom t → i < outputs t
-        → drop i (closingLines t) ≡ lineAt t (p + 3 * i) ∷ drop (i + 1) (closingLines t)
-    closing-step-from p e h = rw e (closing-step h)
+    pub output-at : (p : ℕ) → p ≡ closingsFrom t → i < outputs t → getD (decode t .outputs) i 0 ≡ getD t (p + 3 * i + 1) 0
+    output-at p e h = map-step reference i (closingLines t) _ _ 0 (closing-step p e h)
 
-    pub output-step : i < outputs t → drop i (decode t .outputs) ≡ getD t (closingsFrom t + 3 * i + 1) 0 ∷ drop (i + 1) (decode t .outputs)
-    output-step h =
-        map-drop reference i (closingLines t) ∙ ap (map reference) (closing-step h)
-        ∙ ap (λ l. getD t (closingsFrom t + 3 * i + 1) 0 ∷ l) (sym (map-drop reference (i + 1) (closingLines t)))
+    -- the same two, as loops come to them
+    pub gate-next : i < gates t → drop i (gateLines t) ≡ getD (decode t .gates) i noGate ∷ drop (i + 1) (gateLines t)
+    gate-next h = rw add-one (drop-cons (gateLines t) i noGate (omega (arith, gates-length)))
 
-    -- the element that a mapped list of outputs has at i
-    pub output-at : {A : Type 0} (f : ℕ → A) (z : A) → i < outputs t → getD (map f (decode t .outputs)) i z ≡ f (getD t (closingsFrom t + 3 * i + 1) 0)
-    output-at f z h = map-step f i (decode t .outputs) _ _ z (output-step h)
+    pub output-next : i < outputs t → drop i (decode t .outputs) ≡ getD (decode t .outputs) i 0 ∷ drop (i + 1) (decode t .outputs)
+    output-next h = rw add-one (drop-cons (decode t .outputs) i 0 (omega (arith, outputs-length)))

@@ -1,17 +1,18 @@
 -- The theorems on trimming, of tables. Assumes nothing.
-use mathlib.Core.Path.{_≡_, refl, sym, ap, ap₂, _∙_}
-use mathlib.Core.Bool.{Bool, true, false, not, or-true}
+use mathlib.Core.Path.{_≡_, sym, ap, ap₂, _∙_}
+use mathlib.Core.Bool.{true, or-true}
 use mathlib.Core.List.{List, [], _∷_}
 use Prim.Native.Nat.{ℕ, _+_, _-_, _≤_, _<_}
 use native.Mathlib.Omega.{arith}
-use lib.Dec.{eqb, leb, ltb}
+use lib.Dec.{leb, ltb}
 use lib.ListN.{length, length-map}
-use borrow.Author.Tests.{eqb-true, leb-true, ltb-true}
+use borrow.Author.Tests.{eqb-true, leb-true, ltb-true, not-false}
 use Rattle.lists.proofs.Tests.{left-of, right-of}
-use Rattle.lists.specs.First.{first}
-use Rattle.lines.specs.Refusal.{Outcome, leaving, refused, gives, noTable}
+use Rattle.lines.specs.Refusal.{gives, noTable}
+use Rattle.lines.specs.Checks.{answering, afterwards}
 use Rattle.lines.specs.Calls.{over}
-use Rattle.circuit.specs.Circuit.{maxOutputs, firstGate, references, gateAt}
+use Rattle.lines.proofs.CheckLaws.{check-passed, outcome-same}
+use Rattle.circuit.specs.Circuit.{firstGate, references, gateAt}
 use Rattle.circuit.specs.Table.{inputs, outputs, gateLines, decode, encode}
 use Rattle.circuit.specs.WellFormed.{WellFormed}
 use Rattle.circuit.specs.Evaluation.{evaluate}
@@ -19,7 +20,7 @@ use Rattle.circuit.specs.Depth.{depth, circuitDepth}
 use Rattle.circuit.specs.ReverseDepth.{isLive, above}
 use Rattle.circuit.specs.Critical.{criticalCount}
 use Rattle.circuit.specs.Trim.{rank, isKept, trim, trimOf}
-use Rattle.circuit.specs.EvaluateCall.{evaluating}
+use Rattle.circuit.specs.EvaluateCall.{evaluateChecks, evaluating}
 use Rattle.circuit.specs.Theorems.{TrimmedIsWellFormed, TrimKeepsCounts, TrimKeepsGates, TrimKeepsOutputs, TrimKeepsDepth, TrimKeepsCriticalCount, TrimKeepsDepths, TrimmedIsLive, TrimOfTrim, TrimKeepsCalls}
 use Rattle.circuit.proofs.TableLaws.{gates-length, outputs-length, refs-decode}
 use Rattle.circuit.proofs.EachLaws.{each-at}
@@ -32,8 +33,8 @@ use Rattle.circuit.proofs.KeptLaws.{live-count, keep-at}
 use Rattle.circuit.proofs.TrimLaws.{rank-first, trim-valid, trim-limited, trim-evaluate, trim-depth, trim-circuit-depth, trim-reverse-depth, trim-critical-count, trim-live, trim-trim}
 
 -- the trimmed table says the trimmed circuit
-pub decode-trim : (t : List ℕ) → decode (trimOf t) ≡ trim (decode t)
-decode-trim t = decode-after-encode (trim (decode t))
+pub decode-trim : (t : List ℕ) → WellFormed t → decode (trimOf t) ≡ trim (decode t)
+decode-trim t w = decode-after-encode (trim (decode t)) (trim-valid (decode t) (valid-decode t w) .kinds)
 
 pub trimmed-is-well-formed : TrimmedIsWellFormed
 trimmed-is-well-formed t w =
@@ -62,66 +63,51 @@ trim-keeps-gates t w = (
       let split : n + (v - n) ≡ v = omega arith in
       let k : kept (n + (v - n)) ≡ true = ap kept split ∙ rw (l, or-true) in
       let r : rank kept (n + (v - n)) ≡ rank kept n + (rank kept v - n) = omega (arith, ap (rank kept) split, rank-first c (valid-decode t w), rank-mono kept n v low) in
-      ap (λ d. gateAt d (rank kept v)) (decode-trim t) ∙ keep-at kept n (gateLines t) (v - n) (rank kept v - n) (omega arith) k r,
+      ap (λ d. gateAt d (rank kept v)) (decode-trim t w) ∙ keep-at kept n (gateLines t) (v - n) (rank kept v - n) (omega arith) k r,
 )
 
 pub trim-keeps-outputs : TrimKeepsOutputs
-trim-keeps-outputs t w bytes e = ap (λ c. evaluate c bytes) (decode-trim t) ∙ trim-evaluate (decode t) (valid-decode t w) bytes e
+trim-keeps-outputs t w bytes e = ap (λ c. evaluate c bytes) (decode-trim t w) ∙ trim-evaluate (decode t) (valid-decode t w) bytes e
 
 pub trim-keeps-depth : TrimKeepsDepth
-trim-keeps-depth t w = ap circuitDepth (decode-trim t) ∙ trim-circuit-depth (decode t) (valid-decode t w)
+trim-keeps-depth t w = ap circuitDepth (decode-trim t w) ∙ trim-circuit-depth (decode t) (valid-decode t w)
 
 pub trim-keeps-critical-count : TrimKeepsCriticalCount
-trim-keeps-critical-count t w = ap criticalCount (decode-trim t) ∙ trim-critical-count (decode t) (valid-decode t w)
+trim-keeps-critical-count t w = ap criticalCount (decode-trim t w) ∙ trim-critical-count (decode t) (valid-decode t w)
 
 pub trim-keeps-depths : TrimKeepsDepths
 trim-keeps-depths t w v h e =
     let c = decode t in
     let ok = valid-decode t w in (
-      ap (λ d. depth d (rank (isKept c) v)) (decode-trim t) ∙ trim-depth c ok v (rw (refs-decode t) h) e,
-      ap (λ d. above d (rank (isKept c) v)) (decode-trim t) ∙ ap (λ x. x - 1) (trim-reverse-depth c ok v e),
-      ap (λ d. isLive d (rank (isKept c) v)) (decode-trim t) ∙ ap (λ x. ltb 0 x) (trim-reverse-depth c ok v e),
+      ap (λ d. depth d (rank (isKept c) v)) (decode-trim t w) ∙ trim-depth c ok v (rw (refs-decode t) h) e,
+      ap (λ d. above d (rank (isKept c) v)) (decode-trim t w) ∙ ap (λ x. x - 1) (trim-reverse-depth c ok v e),
+      ap (λ d. isLive d (rank (isKept c) v)) (decode-trim t w) ∙ ap (λ x. ltb 0 x) (trim-reverse-depth c ok v e),
     )
 
 pub trimmed-is-live : TrimmedIsLive
 trimmed-is-live t w i h =
     let c = decode t in
     let n = encode-inputs (trim c) in
-    ap₂ (λ d k. isLive d (firstGate k + i)) (decode-trim t) n
+    ap₂ (λ d k. isLive d (firstGate k + i)) (decode-trim t w) n
     ∙ each-at (λ m g. isLive (trim c) m ≡ true) (firstGate (trim c .inputs)) (trim c .gates) (trim-live c (valid-decode t w)) i (omega (arith, encode-gates (trim c)))
 
 pub trim-of-trim : TrimOfTrim
-trim-of-trim t w = ap encode (ap trim (decode-trim t) ∙ trim-trim (decode t) (valid-decode t w))
+trim-of-trim t w = ap encode (ap trim (decode-trim t w) ∙ trim-trim (decode t) (valid-decode t w))
 
 -- ---- the calls
 
--- of a well-formed table, `evaluate` tests only the buffers' lengths
-pub evaluation-accepted : (t : List ℕ) → WellFormed t → (inputBytes outputBytes : List ℕ)
-    → evaluating t inputBytes outputBytes
-    ≡ first (ltb (length outputBytes) maxOutputs) (leaving (refused 2 noTable) outputBytes)
-    (first (not (eqb (length inputBytes) (inputs t))) (leaving (refused 1 noTable) outputBytes)
-    (leaving (gives (outputs t ∷ [])) (over (evaluate (decode t) inputBytes) outputBytes)))
-unfolding evaluating
-evaluation-accepted t w i o = rw (whole t (w .sized), well-formed-accepted t w)
-
--- two tables of circuits with the same inputs, number of outputs and outputs' values
+-- two tables of circuits with the same inputs, number of outputs and outputs' values: their checks are the same, and so is all that is given
+-- where none applies
 pub same-evaluation : (t t′ : List ℕ) → WellFormed t → WellFormed t′ → inputs t′ ≡ inputs t → outputs t′ ≡ outputs t
     → ((bytes : List ℕ) → length bytes ≡ inputs t → evaluate (decode t′) bytes ≡ evaluate (decode t) bytes)
     → (inputBytes outputBytes : List ℕ) → evaluating t′ inputBytes outputBytes ≡ evaluating t inputBytes outputBytes
+unfolding evaluating
 same-evaluation t t′ w w′ m n same i o =
-    evaluation-accepted t′ w′ i o
-    ∙ ap₂ (λ a b. answer (eqb (length i) a) b (evaluate (decode t′) i)) m n
-    ∙ go (eqb (length i) (inputs t)) refl
-    ∙ sym (evaluation-accepted t w i o)
-  where
-    answer : Bool → ℕ → List ℕ → Outcome
-    answer asMany n bits =
-        first (ltb (length o) maxOutputs) (leaving (refused 2 noTable) o)
-        (first (not asMany) (leaving (refused 1 noTable) o) (leaving (gives (n ∷ [])) (over bits o)))
-
-    go : (b : Bool) → eqb (length i) (inputs t) ≡ b → answer b (outputs t) (evaluate (decode t′) i) ≡ answer b (outputs t) (evaluate (decode t) i)
-    go true e = ap (answer true (outputs t)) (same i (eqb-true (length i) (inputs t) e))
-    go false e = refl
+    let checks : evaluateChecks t′ i o ≡ evaluateChecks t i o =
+    rw (whole t (w .sized), whole t′ (w′ .sized), well-formed-accepted t w, well-formed-accepted t′ w′, m) in
+    ap (λ ks. afterwards (answering ks (outputs t′ ∷ [])) o (over (evaluate (decode t′) i) o)) checks
+    ∙ outcome-same (evaluateChecks t i o) _ _ o _ _
+    (λ p. (ap (λ k. k ∷ []) n, ap (λ bits. over bits o) (same i (eqb-true _ _ (not-false _ (check-passed _ 0 noTable (p .1 .1 .1 .0)))))))
 
 pub trim-keeps-calls : TrimKeepsCalls
 trim-keeps-calls t w = (

@@ -2,6 +2,7 @@
 use mathlib.Core.Path.{_≡_, refl, sym}
 use mathlib.Core.Bool.{Bool, true, false, true≢false, or-true}
 use mathlib.Core.List.{List, [], _∷_, map}
+use mathlib.Core.Logic.{⊎-elim}
 use Prim.Native.Nat.{ℕ, suc, _≤_, _<_}
 use native.Mathlib.Omega.{arith}
 use lib.Dec.{eqb, ltb}
@@ -11,20 +12,20 @@ use Rattle.lists.proofs.Tests.{both, left-of, right-of}
 use Rattle.circuit.specs.Circuit.{Gate, Circuit, maxInputs, maxGates, maxOutputs, firstGate, references}
 use Rattle.circuit.specs.Table.{refs, gateLines, closingLines, reference, closingLine, decode, encode}
 use Rattle.circuit.specs.Each.{EachGate}
-use Rattle.circuit.specs.Refusal.{hasGateKind, isClosing, operandsBelow, referenceBelow}
+use Rattle.circuit.specs.Refusal.{hasGateKind, KnownKinds, isClosing, operandsBelow, referenceBelow}
 use Rattle.circuit.specs.WellFormed.{Sized, WellFormed}
 use Rattle.circuit.specs.Valuation.{Ordered}
 use Rattle.circuit.specs.Path.{isAmong}
-use Rattle.circuit.specs.Theorems.{WellFormedIsCircuit}
+use Rattle.circuit.specs.Theorems.{WellFormedIsCircuit, CircuitIsAccepted}
 use Rattle.circuit.proofs.TableLaws.{gates-length, outputs-length, refs-decode}
 use Rattle.circuit.proofs.EachLaws.{all-each, each-all, each-map}
-use Rattle.circuit.proofs.RefusalLaws.{either}
+use Rattle.circuit.proofs.RefusalLaws.{either, well-formed-accepted}
 use Rattle.circuit.proofs.EncodingLaws.{encode-gate-lines, encode-closing-lines, encode-long}
 
 -- a circuit whose gates and outputs are as refusals 6 and 7 want them
 pub record Valid (c : Circuit) : Type 0 where
   pub ordered : Ordered (firstGate (c .inputs)) (c .gates)
-  pub kinds : EachGate (λ m g. hasGateKind m g ≡ true) (firstGate (c .inputs)) (c .gates)
+  pub kinds : KnownKinds c
   pub outputs-below : (o : ℕ) → isAmong o (c .outputs) ≡ true → o < references c
 
 -- a circuit within the limits of refusal 4
@@ -112,3 +113,11 @@ well-formed-encode c ok l =
       operands = rw (encode-gate-lines c) (each-all operandsBelow n (c .gates) (of-ordered n (c .gates) (ok .ordered)));
       closing-references = rw (encode-closing-lines c) (each-all (referenceBelow (references c)) 0 (map closingLine (c .outputs)) (each-map 0 (map closingLine (c .outputs)) closings (λ m g h x. x .1)));
     }
+
+pub circuit-is-accepted : CircuitIsAccepted
+circuit-is-accepted c is gs some os ordered kinds below =
+    let known = each-map {Q = λ m g. hasGateKind m g ≡ true} _ (c .gates) kinds (λ m g h. ⊎-elim (λ e. rw (eq-eqb _ _ e)) (λ e. rw (eq-eqb _ _ e, or-true))) in
+    well-formed-accepted (encode c)
+    (well-formed-encode c
+    (record { ordered = ordered; kinds = known; outputs-below = below })
+    (record { inputs-limit = is; gates-limit = gs; outputs-some = some; outputs-limit = os }))

@@ -1,13 +1,13 @@
 -- 01, Circuits, 1 to 4: circuits, apart from the tables that they are written in.
-use Prim.Native.Nat.{ℕ, _+_, _-_}
+use Prim.Native.Nat.{ℕ, _+_, _*_, _-_}
 use mathlib.Core.List.{List}
 use lib.ListN.{length, getD}
+use Rattle.circuit.specs.declared.table.Gate.{Gate as DeclaredGate}
 
--- 01, Circuits, 2: a gate is its kind and its two operands. A closing line is held in the same record.
-pub record Gate : Type 0 where
-  pub kind : ℕ
-  pub left : ℕ
-  pub right : ℕ
+-- 01, Circuits, 2: a gate is its kind and its two operands, as the code's struct has them. Closing lines, whose reference stands in `left`,
+-- and the lines of tables of other crates are read as the same record.
+abbrev pub Gate : Type 0
+Gate = DeclaredGate
 
 -- the gates in line order, and the outputs' references in the order of the closing lines
 pub record Circuit : Type 0 where
@@ -36,12 +36,32 @@ abbrev pub maxOutputs : ℕ
 maxOutputs = 256
 
 -- 01, Circuits, 4: references 0 and 1 are the constants, then come the inputs, then the gates: the first gate's reference
+abbrev pub constants : ℕ
+constants = 2
+
 abbrev pub firstGate : (inputs : ℕ) → ℕ
-firstGate inputs = inputs + 2
+firstGate inputs = inputs + constants
+
+-- how many references, lines and numbers the table of a circuit within the limits has at most, and how deep such a circuit is at most
+abbrev pub maxReferences : ℕ
+maxReferences = firstGate maxInputs + maxGates
+
+abbrev pub maxLines : ℕ
+maxLines = 1 + maxGates + maxOutputs
+
+abbrev pub maxTable : ℕ
+maxTable = 3 * maxLines
+
+abbrev pub maxDepth : ℕ
+maxDepth = maxGates
 
 -- how many references there are: each is below this
 abbrev pub references : Circuit → ℕ
 references c = firstGate (c .inputs) + length (c .gates)
+
+-- how many lines its table has
+abbrev pub lineCount : Circuit → ℕ
+lineCount c = 1 + length (c .gates) + length (c .outputs)
 
 -- what a list of gates gives beyond its end
 abbrev pub noGate : Gate

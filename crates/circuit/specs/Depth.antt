@@ -1,5 +1,6 @@
 -- 01, Depth and critical count, 1 and 2: the depth of a reference, and D.
 use Prim.Native.Nat.{ℕ, _+_, max}
+use mathlib.Core.Bool.{Bool}
 use mathlib.Core.List.{List, [], _∷_}
 use lib.Dec.{eqb}
 use lib.ListN.{getD, replicate}
@@ -7,9 +8,13 @@ use Rattle.lists.specs.First.{first}
 use Rattle.circuit.specs.Circuit.{Circuit, andKind, firstGate}
 use Rattle.circuit.specs.Fold.{foldGates, atOutputs}
 
--- an AND gate counts, an XOR does not (other kinds are refused)
+-- whether a gate of this kind counts, for depth, above and N: an AND does, an XOR does not (other kinds are refused)
+abbrev pub isCounted : (kind : ℕ) → Bool
+isCounted kind = eqb kind andKind
+
+-- 1 more for a gate that counts
 abbrev pub plusAnd : (kind x : ℕ) → ℕ
-plusAnd kind x = first (eqb kind andKind) (x + 1) x
+plusAnd kind x = first (isCounted kind) (x + 1) x
 
 -- a gate's depth: the larger of its operands', and 1 more for an AND, constant operands or not
 abbrev pub depthOp : (kind a b : ℕ) → ℕ

@@ -4,9 +4,10 @@ use mathlib.Core.Bool.{not}
 use mathlib.Core.List.{List, [], _∷_}
 use lib.Dec.{eqb, ltb}
 use lib.ListN.{length}
-use Rattle.lists.specs.First.{first}
 use Rattle.lines.specs.Text.{isPartial}
-use Rattle.lines.specs.Refusal.{Result, refused, gives, noTable, Outcome, leaving}
+use Rattle.lines.specs.declared.Refusal.{Refusal}
+use Rattle.lines.specs.Refusal.{Result, refused, gives, noTable, Outcome}
+use Rattle.lines.specs.Checks.{found, check, answering, afterwards}
 use Rattle.lines.specs.Calls.{over}
 use Rattle.circuit.specs.declared.Evaluated.{Evaluated}
 use Rattle.circuit.specs.declared.Evaluated.the-variants.{Outputs, Refused}
@@ -22,10 +23,14 @@ paperValues (Refused r) = refused (r .number) (r .table)
 
 -- 01, Refusals, 2: 1 for the table; 2, for fewer than 256 output bytes, whatever the head says; 4 to 7; and last 1 again, for input bytes that are not as many
 -- as the inputs, where the fault lies in no table.
-unfoldable pub evaluating : (circuit inputBytes outputBytes : List ℕ) → Outcome
+abbrev pub evaluateChecks : (circuit inputBytes outputBytes : List ℕ) → List Refusal
+evaluateChecks circuit inputBytes outputBytes =
+    check (isPartial 3 circuit) 1 circuitTable
+    ∷ check (ltb (length outputBytes) maxOutputs) 2 noTable
+    ∷ found (refusal circuit) circuitTable
+    ∷ check (not (eqb (length inputBytes) (inputs circuit))) 1 noTable ∷ []
+
+unfoldable pub evaluating : (circuit inputBytes outputBytes : List ℕ) → Outcome (List ℕ)
 evaluating circuit inputBytes outputBytes =
-    first (isPartial 3 circuit) (leaving (refused 1 circuitTable) outputBytes)
-    (first (ltb (length outputBytes) maxOutputs) (leaving (refused 2 noTable) outputBytes)
-    (first (not (eqb (refusal circuit) 0)) (leaving (refused (refusal circuit) circuitTable) outputBytes)
-    (first (not (eqb (length inputBytes) (inputs circuit))) (leaving (refused 1 noTable) outputBytes)
-    (leaving (gives (outputs circuit ∷ [])) (over (evaluate (decode circuit) inputBytes) outputBytes)))))
+    afterwards (answering (evaluateChecks circuit inputBytes outputBytes) (outputs circuit ∷ []))
+    outputBytes (over (evaluate (decode circuit) inputBytes) outputBytes)

@@ -3,8 +3,9 @@ use Prim.Native.Nat.{ℕ}
 use mathlib.Core.List.{List, _∷_, map}
 use lib.Bits.{bitAnd, bitXor}
 use lib.Dec.{eqb}
+use lib.ListN.{take}
 use Rattle.lists.specs.First.{first}
-use Rattle.circuit.specs.Circuit.{Circuit, andKind}
+use Rattle.circuit.specs.Circuit.{Circuit, andKind, firstGate}
 use Rattle.circuit.specs.Fold.{foldGates, atOutputs}
 
 -- AND, or else XOR, as other kinds are refused; bit by bit, so that words of many bits are computed by it as well
@@ -22,6 +23,10 @@ startBits bytes = 0 ∷ 1 ∷ map bitOf bytes
 -- the bit of each reference
 unfoldable pub bits : Circuit → (bytes : List ℕ) → List ℕ
 bits c bytes = foldGates bitOp 0 (c .gates) (startBits bytes)
+
+-- the same, where d begins with the bits of the constants and inputs
+abbrev pub bitsFrom : Circuit → (d : List ℕ) → List ℕ
+bitsFrom c d = foldGates bitOp 0 (c .gates) (take (firstGate (c .inputs)) d)
 
 -- one byte, 0 or 1, an output, in the order of the closing lines
 unfoldable pub evaluate : Circuit → (bytes : List ℕ) → List ℕ

@@ -1,10 +1,8 @@
 -- The call `measure`: what it gives back, for every input.
 use Prim.Native.Nat.{ℕ}
-use mathlib.Core.Bool.{not}
 use mathlib.Core.List.{List, [], _∷_}
-use lib.Dec.{eqb}
-use Rattle.lists.specs.First.{first}
 use Rattle.lines.specs.Refusal.{Result, refused, gives}
+use Rattle.lines.specs.Checks.{found, answering}
 use Rattle.circuit.specs.declared.Measured.{Measured}
 use Rattle.circuit.specs.declared.Measured.the-variants.{Pair, Refused}
 use Rattle.circuit.specs.Table.{decode}
@@ -20,5 +18,4 @@ paperValues (Refused r) = refused (r .number) (r .table)
 -- the circuit's refusals, 1 and 4 to 7; else the pair of the circuit as read
 unfoldable pub measuring : (circuit : List ℕ) → Result
 measuring circuit =
-    first (not (eqb (refusal circuit) 0)) (refused (refusal circuit) circuitTable)
-    (gives (circuitDepth (decode circuit) ∷ criticalCount (decode circuit) ∷ []))
+    answering (found (refusal circuit) circuitTable ∷ []) (circuitDepth (decode circuit) ∷ criticalCount (decode circuit) ∷ [])

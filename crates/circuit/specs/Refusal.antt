@@ -1,14 +1,15 @@
 -- The refusals 1 and 4 to 7 of a circuit's table; 8 is of rules alone.
 use Prim.Native.Nat.{ℕ}
-use mathlib.Core.Bool.{Bool, not, _&&_, _||_}
+use mathlib.Core.Path.{_≡_}
+use mathlib.Core.Bool.{Bool, true, not, _&&_, _||_}
 use mathlib.Core.List.{List}
 use lib.Dec.{eqb, leb, ltb}
 use lib.ListN.{length}
 use Rattle.lists.specs.First.{first}
 use Rattle.lines.specs.Text.{isPartial}
-use Rattle.circuit.specs.Circuit.{Gate, xorKind, andKind, closingKind, maxInputs, maxGates, maxOutputs, firstGate}
+use Rattle.circuit.specs.Circuit.{Gate, Circuit, xorKind, andKind, closingKind, maxInputs, maxGates, maxOutputs, firstGate}
 use Rattle.circuit.specs.Table.{inputs, gates, outputs, refs, tableEnd, gateLines, closingLines, reference}
-use Rattle.circuit.specs.Each.{allGates}
+use Rattle.circuit.specs.Each.{allGates, EachGate}
 
 -- 01, refusal 4, does not apply: the head's numbers are within their limits.
 abbrev pub headInLimits : List ℕ → Bool
@@ -27,6 +28,10 @@ isClosing n line = eqb (line .kind) closingKind && eqb (line .right) 0
 
 abbrev pub gateKindsOk : List ℕ → Bool
 gateKindsOk t = allGates hasGateKind (firstGate (inputs t)) (gateLines t)
+
+-- the same, of a circuit
+abbrev pub KnownKinds : Circuit → Type 0
+KnownKinds c = EachGate (λ m g. hasGateKind m g ≡ true) (firstGate (c .inputs)) (c .gates)
 
 abbrev pub closingKindsOk : List ℕ → Bool
 closingKindsOk t = allGates isClosing 0 (closingLines t)

@@ -1,6 +1,9 @@
 -- Live (01, Circuits, 7) and above (01, Depth and critical count, 3) in one pass from the last gate to the first. A reference's
 -- reverse depth is 0 if it is not live, else its above plus 1. That this is what 01's paths say: `LiveIsReached` and
 -- `AboveIsLargest` in Theorems.antt.
+-- An example: inputs 2 and 3, gate 4 the AND 2·3, gate 5 the XOR 3⊕3, gate 6 the AND 4·3, which is the output. Marked: 6 has 1. Gate 6 is
+-- live and counts, so 4 and 3 get 2; gate 5 is dead and passed over; gate 4 is live and counts, so 2 and 3 get 3. So the reverse depths of
+-- 2 to 6 are 3, 3, 2, 0, 1, and above(3) is 2, by the path through 4 and 6, not 1, by the path through 6 alone.
 use Prim.Native.Nat.{ℕ, suc, _-_, max}
 use mathlib.Core.Bool.{Bool}
 use mathlib.Core.List.{List, [], _∷_}

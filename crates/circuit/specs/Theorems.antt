@@ -5,19 +5,19 @@ use mathlib.Core.Logic.{_↔_, _⊎_}
 use mathlib.Core.Bool.{true}
 use mathlib.Core.List.{List}
 use lib.ListN.{length, getD}
-use Rattle.circuit.specs.Circuit.{Gate, Circuit, xorKind, andKind, firstGate, gateAt}
+use Rattle.circuit.specs.Circuit.{Gate, Circuit, xorKind, andKind, maxInputs, maxGates, maxOutputs, firstGate, references, gateAt}
 use Rattle.circuit.specs.Table.{inputs, gates, outputs, refs, gateLines, decode, encode}
-use Rattle.circuit.specs.Refusal.{refusal}
+use Rattle.circuit.specs.Refusal.{KnownKinds, refusal}
 use Rattle.circuit.specs.WellFormed.{WellFormed}
 use Rattle.circuit.specs.Each.{countGates, EachGate}
 use Rattle.circuit.specs.Fold.{foldGates}
 use Rattle.circuit.specs.Valuation.{Ordered, Solves}
 use Rattle.circuit.specs.Evaluation.{evaluate}
-use Rattle.circuit.specs.Depth.{depth, circuitDepth}
-use Rattle.circuit.specs.Path.{isAmong, isGate, isPath, andsOn}
+use Rattle.circuit.specs.Depth.{plusAnd, depth, circuitDepth}
+use Rattle.circuit.specs.Path.{isAmong, isGate, isOperand, isPath, andsOn}
 use Rattle.circuit.specs.ReverseDepth.{isLive, above}
 use Rattle.circuit.specs.Critical.{criticalCount}
-use Rattle.circuit.specs.Trim.{renameGate, rank, isKept, trimOf}
+use Rattle.circuit.specs.Trim.{renameGate, isKept, newNumber, trimOf}
 use Rattle.circuit.specs.EvaluateCall.{evaluating}
 use Rattle.circuit.specs.MeasureCall.{measuring}
 
@@ -36,13 +36,23 @@ WellFormedIsCircuit =
     × EachGate (λ m g. (g .kind ≡ xorKind) ⊎ (g .kind ≡ andKind)) (firstGate (inputs t)) (gateLines t)
     × ((o : ℕ) → isAmong o (decode t .outputs) ≡ true → o < refs t)
 
--- A circuit's table says the circuit.
+-- The table of a circuit whose gates are each of a known kind says the circuit.
 abbrev pub DecodeAfterEncode : Type 0
-DecodeAfterEncode = (c : Circuit) → decode (encode c) ≡ c
+DecodeAfterEncode = (c : Circuit) → KnownKinds c → decode (encode c) ≡ c
 
 -- A well-formed table is the table of what it says.
 abbrev pub EncodeAfterDecode : Type 0
 EncodeAfterDecode = (t : List ℕ) → WellFormed t → encode (decode t) ≡ t
+
+-- 01, Refusals, 4: no refusal is given outside its condition. The table of a circuit within the limits, each gate an XOR or an AND whose
+-- operands are below it, and each output one of its references, is accepted.
+abbrev pub CircuitIsAccepted : Type 0
+CircuitIsAccepted =
+    (c : Circuit) → c .inputs ≤ maxInputs → length (c .gates) ≤ maxGates → 1 ≤ length (c .outputs) → length (c .outputs) ≤ maxOutputs
+    → Ordered (firstGate (c .inputs)) (c .gates)
+    → EachGate (λ m g. (g .kind ≡ xorKind) ⊎ (g .kind ≡ andKind)) (firstGate (c .inputs)) (c .gates)
+    → ((o : ℕ) → isAmong o (c .outputs) ≡ true → o < references c)
+    → refusal (encode c) ≡ 0
 
 -- ---- values, over any carrier
 
@@ -90,6 +100,12 @@ AboveIsLargest =
     → ((path : List ℕ) × (isPath (decode t) v path ≡ true) × (andsOn (decode t) path ≡ above (decode t) v))
     × ((path : List ℕ) → isPath (decode t) v path ≡ true → andsOn (decode t) path ≤ above (decode t) v)
 
+-- So a live gate's operands are live, and above each of them is what is above the gate, and the gate itself if it is an AND, or more.
+abbrev pub OperandsOfLive : Type 0
+OperandsOfLive =
+    (t : List ℕ) → WellFormed t → (v w : ℕ) → isGate (decode t) w ≡ true → isOperand v (gateAt (decode t) w) ≡ true → isLive (decode t) w ≡ true
+    → (isLive (decode t) v ≡ true) × (plusAnd (gateAt (decode t) w .kind) (above (decode t) w) ≤ above (decode t) v)
+
 -- ---- trimming
 
 -- The trimmed table of a well-formed table is well formed.
@@ -107,7 +123,7 @@ TrimKeepsGates =
     (t : List ℕ) → WellFormed t
     → (gates (trimOf t) ≡ countGates (λ v g. isLive (decode t) v) (firstGate (inputs t)) (gateLines t))
     × ((v : ℕ) → isGate (decode t) v ≡ true → isLive (decode t) v ≡ true
-    → gateAt (decode (trimOf t)) (rank (isKept (decode t)) v) ≡ renameGate (rank (isKept (decode t))) (gateAt (decode t) v))
+    → gateAt (decode (trimOf t)) (newNumber (decode t) v) ≡ renameGate (newNumber (decode t)) (gateAt (decode t) v))
 
 -- It gives the same outputs on every input.
 abbrev pub TrimKeepsOutputs : Type 0
@@ -127,9 +143,9 @@ TrimKeepsCriticalCount = (t : List ℕ) → WellFormed t → criticalCount (deco
 abbrev pub TrimKeepsDepths : Type 0
 TrimKeepsDepths =
     (t : List ℕ) → WellFormed t → (v : ℕ) → v < refs t → isKept (decode t) v ≡ true
-    → (depth (decode (trimOf t)) (rank (isKept (decode t)) v) ≡ depth (decode t) v)
-    × (above (decode (trimOf t)) (rank (isKept (decode t)) v) ≡ above (decode t) v)
-    × (isLive (decode (trimOf t)) (rank (isKept (decode t)) v) ≡ isLive (decode t) v)
+    → (depth (decode (trimOf t)) (newNumber (decode t) v) ≡ depth (decode t) v)
+    × (above (decode (trimOf t)) (newNumber (decode t) v) ≡ above (decode t) v)
+    × (isLive (decode (trimOf t)) (newNumber (decode t) v) ≡ isLive (decode t) v)
 
 -- Every gate of a trimmed circuit is live.
 abbrev pub TrimmedIsLive : Type 0

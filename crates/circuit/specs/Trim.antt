@@ -4,8 +4,9 @@ use Prim.Native.Nat.{ℕ, zero, suc, _+_}
 use mathlib.Core.Bool.{Bool, _||_}
 use mathlib.Core.List.{List, [], _∷_, _++_, map}
 use lib.Dec.{ltb}
+use lib.ListN.{getD}
 use Rattle.lists.specs.First.{first}
-use Rattle.circuit.specs.Circuit.{Gate, Circuit, firstGate}
+use Rattle.circuit.specs.Circuit.{Gate, Circuit, firstGate, noGate}
 use Rattle.circuit.specs.Table.{decode, encode}
 use Rattle.circuit.specs.ReverseDepth.{isLive}
 
@@ -32,13 +33,23 @@ keepGates kept n (g ∷ gs) = first (kept n) (renameGate (rank kept) g ∷ keepG
 abbrev pub isKept : Circuit → (v : ℕ) → Bool
 isKept c v = ltb v (firstGate (c .inputs)) || isLive c v
 
+-- the number of reference v in the trimmed circuit
+abbrev pub newNumber : Circuit → (v : ℕ) → ℕ
+newNumber c = rank (isKept c)
+
+-- gate i of the circuit, renumbered
+abbrev pub renumberedGate : Circuit → (i : ℕ) → Gate
+renumberedGate c i = renameGate (newNumber c) (getD (c .gates) i noGate)
+
+-- the gates and outputs of the trimmed circuit
+abbrev pub trimmedGates : Circuit → List Gate
+trimmedGates c = keepGates (isKept c) (firstGate (c .inputs)) (c .gates)
+
+abbrev pub trimmedOutputs : Circuit → List ℕ
+trimmedOutputs c = map (newNumber c) (c .outputs)
+
 unfoldable pub trim : Circuit → Circuit
-trim c =
-    record {
-      inputs = c .inputs;
-      gates = keepGates (isKept c) (firstGate (c .inputs)) (c .gates);
-      outputs = map (rank (isKept c)) (c .outputs);
-    }
+trim c = record { inputs = c .inputs; gates = trimmedGates c; outputs = trimmedOutputs c }
 
 -- the table of the trimmed circuit
 abbrev pub trimOf : List ℕ → List ℕ

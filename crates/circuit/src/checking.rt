@@ -1,21 +1,22 @@
-// The tests of a circuit's table, in the order of 01's refusals 4 to 7. Each is true if the refusal does not apply.
+// The refusal of a circuit's table, and its tests in the order of 01's refusals 4 to 7. Each test is true if the refusal does not apply.
 ghost use mathlib.Core.Path.{_≡_};
 ghost use Prim.Native.Nat.{_≤_};
 ghost use lib.ListN.{length};
-ghost use Rattle.circuit.specs.Refusal.{headInLimits, linesAsHeadSays, gateKindsOk, closingKindsOk, operandsOk, closingReferencesOk};
+ghost use Rattle.circuit.specs.Refusal.{headInLimits, linesAsHeadSays, gateKindsOk, closingKindsOk, operandsOk, closingReferencesOk, refusal};
 ghost use Rattle.circuit.specs.WellFormed.{Sized};
 use crate::table::AND;
 use crate::table::CLOSING;
-use crate::table::CONSTANTS;
 use crate::table::MAX_GATES;
 use crate::table::MAX_INPUTS;
 use crate::table::MAX_OUTPUTS;
 use crate::table::XOR;
 use crate::table::closings_from;
+use crate::table::first_gate;
 use crate::table::gates_from;
+use lines::is_partial;
 
 // Refusal 4.
-pub fn head_in_limits(t: &[u32]) -> bool
+fn head_in_limits(t: &[u32]) -> bool
     requires { ⌜ 3 ≤ length (now t) ⌝ }
     ensures { λ r. ⌜ r ≡ headInLimits (now (t .entry)) ⌝ }
 {
@@ -26,7 +27,7 @@ pub fn head_in_limits(t: &[u32]) -> bool
 }
 
 // Refusal 5.
-pub fn lines_as_head_says(t: &[u32]) -> bool
+fn lines_as_head_says(t: &[u32]) -> bool
     requires { ⌜ 3 ≤ length (now t) ⌝ }
     ensures { λ r. ⌜ r ≡ linesAsHeadSays (now (t .entry)) ⌝ }
 {
@@ -35,7 +36,7 @@ pub fn lines_as_head_says(t: &[u32]) -> bool
 }
 
 // Refusal 6 of the gates.
-pub fn gate_kinds_ok(t: &[u32]) -> bool
+fn gate_kinds_ok(t: &[u32]) -> bool
     requires { ⌜ Sized (now t) ⌝ }
     ensures { λ r. ⌜ r ≡ gateKindsOk (now (t .entry)) ⌝ }
 {
@@ -51,7 +52,7 @@ pub fn gate_kinds_ok(t: &[u32]) -> bool
 }
 
 // Refusal 6 of the closing lines.
-pub fn closing_kinds_ok(t: &[u32]) -> bool
+fn closing_kinds_ok(t: &[u32]) -> bool
     requires { ⌜ Sized (now t) ⌝ }
     ensures { λ r. ⌜ r ≡ closingKindsOk (now (t .entry)) ⌝ }
 {
@@ -67,12 +68,12 @@ pub fn closing_kinds_ok(t: &[u32]) -> bool
 }
 
 // Refusal 7 of the gates.
-pub fn operands_ok(t: &[u32]) -> bool
+fn operands_ok(t: &[u32]) -> bool
     requires { ⌜ Sized (now t) ⌝ }
     ensures { λ r. ⌜ r ≡ operandsOk (now (t .entry)) ⌝ }
 {
     let from = gates_from(t);
-    let first = t[0] + CONSTANTS;
+    let first = first_gate(t);
     let gates = t[1] as usize;
     for i in 0..gates {
         let p = from + 3 * i;
@@ -85,12 +86,12 @@ pub fn operands_ok(t: &[u32]) -> bool
 }
 
 // Refusal 7 of the closing lines.
-pub fn closing_references_ok(t: &[u32]) -> bool
+fn closing_references_ok(t: &[u32]) -> bool
     requires { ⌜ Sized (now t) ⌝ }
     ensures { λ r. ⌜ r ≡ closingReferencesOk (now (t .entry)) ⌝ }
 {
     let from = closings_from(t);
-    let references = t[0] + CONSTANTS + t[1];
+    let references = first_gate(t) + t[1];
     let outputs = t[2] as usize;
     for i in 0..outputs {
         if !(t[from + 3 * i + 1] < references) {
@@ -98,4 +99,26 @@ pub fn closing_references_ok(t: &[u32]) -> bool
         }
     }
     true
+}
+
+// The number of the first refusal that applies to the table, or 0.
+pub fn refusal(t: &[u32]) -> u32
+    ensures { λ r. ⌜ r ≡ refusal (now (t .entry)) ⌝ }
+{
+    if is_partial(t) {
+        return 1;
+    }
+    if !head_in_limits(t) {
+        return 4;
+    }
+    if !lines_as_head_says(t) {
+        return 5;
+    }
+    if !(gate_kinds_ok(t) & closing_kinds_ok(t)) {
+        return 6;
+    }
+    if !(operands_ok(t) & closing_references_ok(t)) {
+        return 7;
+    }
+    0
 }

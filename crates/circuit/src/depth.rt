@@ -3,15 +3,16 @@ ghost use mathlib.Core.Path.{_≡_};
 ghost use Prim.Native.Nat.{_+_, _≤_, max};
 ghost use lib.ListN.{length, take, replicate};
 ghost use Rattle.lines.specs.Calls.{over};
-ghost use Rattle.circuit.specs.Circuit.{maxGates, firstGate};
+ghost use Rattle.circuit.specs.Circuit.{maxDepth, firstGate};
 ghost use Rattle.circuit.specs.Table.{inputs, refs, decode};
 ghost use Rattle.circuit.specs.WellFormed.{WellFormed};
-ghost use Rattle.circuit.specs.Depth.{plusAnd, depthOp, startDepths, depths, circuitDepth};
-use crate::checked::output_reference;
+ghost use Rattle.circuit.specs.Depth.{isCounted, plusAnd, depthOp, startDepths, depths, circuitDepth};
 use crate::table::AND;
-use crate::table::gate_kind;
-use crate::table::gate_left;
-use crate::table::gate_right;
+use crate::table::closings_from;
+use crate::table::first_gate;
+use crate::table::gate_line;
+use crate::table::gates_from;
+use crate::table::output_reference;
 
 pub fn larger(a: u32, b: u32) -> u32
     ensures { λ r. ⌜ r ≡ max a b ⌝ }
@@ -19,18 +20,25 @@ pub fn larger(a: u32, b: u32) -> u32
     if a < b { b } else { a }
 }
 
-// One more for an AND. Depths are at most the number of gates, reverse depths one more than that.
+// Whether a gate of this kind counts for depth.
+pub fn is_counted(kind: u32) -> bool
+    ensures { λ r. ⌜ r ≡ isCounted kind ⌝ }
+{
+    kind == AND
+}
+
+// One more for a gate that counts. Depths are at most the deepest there is, reverse depths at most the number of gates and 1.
 pub fn plus_and(kind: u32, x: u32) -> u32
-    requires { ⌜ x ≤ maxGates + 1 ⌝ }
+    requires { ⌜ x ≤ maxDepth + 1 ⌝ }
     ensures { λ r. ⌜ r ≡ plusAnd kind x ⌝ }
 {
-    if kind == AND { x + 1 } else { x }
+    if is_counted(kind) { x + 1 } else { x }
 }
 
 // A gate's depth, from those of its operands.
 fn gate_depth(kind: u32, a: u32, b: u32) -> u32
-    requires { ⌜ a ≤ maxGates ⌝ }
-    requires { ⌜ b ≤ maxGates ⌝ }
+    requires { ⌜ a ≤ maxDepth ⌝ }
+    requires { ⌜ b ≤ maxDepth ⌝ }
     ensures { λ r. ⌜ r ≡ depthOp kind a b ⌝ }
 {
     plus_and(kind, larger(a, b))
@@ -47,19 +55,31 @@ pub fn clear(d: &mut [u32], n: usize)
 }
 
 // The depths of the gates, behind those of the constants and inputs.
-pub fn append_depths(t: &[u32], d: &mut [u32])
+fn append_depths(t: &[u32], d: &mut [u32])
     requires { ⌜ WellFormed (now t) ⌝ }
     requires { ⌜ refs (now t) ≤ length (now d) ⌝ }
     requires { ⌜ take (firstGate (inputs (now t))) (now d) ≡ startDepths (inputs (now t)) ⌝ }
     ensures { λ _. ⌜ now (d .exit) ≡ over (depths (decode (now (t .entry)))) (now (d .entry)) ⌝ }
 {
-    let first = t[0] as usize + 2;
+    let from = gates_from(t);
+    let first = first_gate(t) as usize;
     let gates = t[1] as usize;
     for i in 0..gates {
-        let left = gate_left(t, i);
-        let right = gate_right(t, i);
-        d[first + i] = gate_depth(gate_kind(t, i), d[left], d[right]);
+        let g = gate_line(t, from, i);
+        let left = g.left as usize;
+        let right = g.right as usize;
+        d[first + i] = gate_depth(g.kind, d[left], d[right]);
     }
+}
+
+// The depth of every reference, over the front of d.
+pub fn depths(t: &[u32], d: &mut [u32])
+    requires { ⌜ WellFormed (now t) ⌝ }
+    requires { ⌜ refs (now t) ≤ length (now d) ⌝ }
+    ensures { λ _. ⌜ now (d .exit) ≡ over (depths (decode (now (t .entry)))) (now (d .entry)) ⌝ }
+{
+    clear(d, first_gate(t) as usize);
+    append_depths(t, d);
 }
 
 // The largest depth of an output, where d begins with the depths.
@@ -69,10 +89,11 @@ pub fn output_depth(t: &[u32], d: &[u32]) -> u32
     requires { ⌜ take (refs (now t)) (now d) ≡ depths (decode (now t)) ⌝ }
     ensures { λ r. ⌜ r ≡ circuitDepth (decode (now (t .entry))) ⌝ }
 {
+    let from = closings_from(t);
     let outputs = t[2] as usize;
     let mut deepest: u32 = 0;
     for i in 0..outputs {
-        let reference = output_reference(t, i);
+        let reference = output_reference(t, from, i);
         deepest = larger(deepest, d[reference]);
     }
     deepest

@@ -2,32 +2,34 @@
 ghost use mathlib.Core.Path.{_≡_};
 ghost use mathlib.Core.List.{[], _∷_, map};
 ghost use Prim.Native.Nat.{_+_, _*_, _≤_, _<_};
-ghost use lib.ListN.{length, take, getD};
+ghost use lib.ListN.{length, take};
 ghost use lib.Seq.{sets};
-ghost use Rattle.circuit.specs.Circuit.{firstGate};
-ghost use Rattle.circuit.specs.Table.{inputs, gates, outputs, refs, gatesFrom, tableEnd, lineAt, gateLines, closingLine, decode, encodeLines};
+ghost use Rattle.lines.specs.Calls.{over};
+ghost use Rattle.circuit.specs.Table.{gates, outputs, refs, gatesFrom, tableEnd, closingLine, decode, encodeLines};
 ghost use Rattle.circuit.specs.WellFormed.{WellFormed};
 ghost use Rattle.circuit.specs.ReverseDepth.{reverseDepths};
-ghost use Rattle.circuit.specs.Trim.{renameGate, rank, ranks, keepGates, isKept, trimOf};
-use crate::checked::output_reference;
-use crate::checked::write_line;
+ghost use Rattle.circuit.specs.Trim.{ranks, isKept, renumberedGate, trimmedGates, trimmedOutputs, trimOf};
+use crate::reverse_depth::reverse_depths;
 use crate::table::CLOSING;
-use crate::table::gate_kind;
-use crate::table::gate_left;
-use crate::table::gate_right;
+use crate::table::MAX_REFERENCES;
+use crate::table::closings_from;
+use crate::table::first_gate;
+use crate::table::gate_line;
 use crate::table::gates_from;
+use crate::table::output_reference;
+use lines::checked::write_row;
 
 // The new number of each reference into the front of `names`, where u begins with the reverse depths. The result is how many gates
 // are kept.
-pub fn rank_references(t: &[u32], u: &[u32], names: &mut [u32]) -> u32
+fn rank_references(t: &[u32], u: &[u32], names: &mut [u32]) -> u32
     requires { ⌜ WellFormed (now t) ⌝ }
     requires { ⌜ refs (now t) ≤ length (now u) ⌝ }
     requires { ⌜ refs (now t) ≤ length (now names) ⌝ }
     requires { ⌜ take (refs (now t)) (now u) ≡ reverseDepths (decode (now t)) ⌝ }
-    ensures { λ r. ⌜ r ≡ length (keepGates (isKept (decode (now (t .entry)))) (firstGate (inputs (now (t .entry)))) (gateLines (now (t .entry)))) ⌝ }
+    ensures { λ r. ⌜ r ≡ length (trimmedGates (decode (now (t .entry)))) ⌝ }
     ensures { λ _. ⌜ take (refs (now (t .entry))) (now (names .exit)) ≡ ranks (isKept (decode (now (t .entry)))) (refs (now (t .entry))) ⌝ }
 {
-    let first = t[0] as usize + 2;
+    let first = first_gate(t) as usize;
     let refs = first + t[1] as usize;
     let mut next: u32 = 0;
     let mut v: usize = 0;
@@ -40,20 +42,27 @@ pub fn rank_references(t: &[u32], u: &[u32], names: &mut [u32]) -> u32
             v += 1;
         }
     }
-    next - (t[0] + 2)
+    next - first_gate(t)
 }
 
 // Gate i's line, with the new numbers of its operands.
-fn write_gate(t: &[u32], i: usize, names: &[u32], out: &mut [u32], at: usize)
+fn write_gate(t: &[u32], from: usize, i: usize, names: &[u32], out: &mut [u32], at: usize)
     requires { ⌜ WellFormed (now t) ⌝ }
+    requires { ⌜ from ≡ gatesFrom (now t) ⌝ }
     requires { ⌜ i < gates (now t) ⌝ }
     requires { ⌜ refs (now t) ≤ length (now names) ⌝ }
+    requires { ⌜ take (refs (now t)) (now names) ≡ ranks (isKept (decode (now t))) (refs (now t)) ⌝ }
     requires { ⌜ at + 3 ≤ length (now out) ⌝ }
-    ensures { λ _. ⌜ now (out .exit) ≡ sets (now (out .entry)) at (encodeLines (renameGate (λ v. getD (now (names .entry)) v 0) (lineAt (now (t .entry)) (gatesFrom (now (t .entry)) + 3 * i)) ∷ [])) ⌝ }
+    ensures { λ _. ⌜ now (out .exit) ≡ sets (now (out .entry)) at (encodeLines (renumberedGate (decode (now (t .entry))) i ∷ [])) ⌝ }
 {
-    let left = gate_left(t, i);
-    let right = gate_right(t, i);
-    write_line(out, at, gate_kind(t, i), names[left], names[right]);
+    let g = gate_line(t, from, i);
+    write_row(
+        out,
+        at,
+        g.kind,
+        names[g.left as usize],
+        names[g.right as usize],
+    );
 }
 
 // The gate lines of the trimmed table. The result is the place behind them, where its closing lines begin.
@@ -64,16 +73,17 @@ fn write_gates(t: &[u32], u: &[u32], names: &[u32], out: &mut [u32]) -> usize
     requires { ⌜ take (refs (now t)) (now u) ≡ reverseDepths (decode (now t)) ⌝ }
     requires { ⌜ take (refs (now t)) (now names) ≡ ranks (isKept (decode (now t))) (refs (now t)) ⌝ }
     requires { ⌜ tableEnd (now t) ≤ length (now out) ⌝ }
-    ensures { λ _. ⌜ now (out .exit) ≡ sets (now (out .entry)) (gatesFrom (now (t .entry))) (encodeLines (keepGates (isKept (decode (now (t .entry)))) (firstGate (inputs (now (t .entry)))) (gateLines (now (t .entry))))) ⌝ }
-    ensures { λ r. ⌜ r ≡ gatesFrom (now (t .entry)) + length (encodeLines (keepGates (isKept (decode (now (t .entry)))) (firstGate (inputs (now (t .entry)))) (gateLines (now (t .entry))))) ⌝ }
+    ensures { λ _. ⌜ now (out .exit) ≡ sets (now (out .entry)) (gatesFrom (now (t .entry))) (encodeLines (trimmedGates (decode (now (t .entry))))) ⌝ }
+    ensures { λ r. ⌜ r ≡ gatesFrom (now (t .entry)) + length (encodeLines (trimmedGates (decode (now (t .entry))))) ⌝ }
 {
-    let first = t[0] as usize + 2;
+    let from = gates_from(t);
+    let first = first_gate(t) as usize;
     let gates = t[1] as usize;
-    let mut at = gates_from(t);
+    let mut at = from;
     let mut i: usize = 0;
     while i < gates {
         if 0 < u[first + i] {
-            write_gate(t, i, names, out, at);
+            write_gate(t, from, i, names, out, at);
             at += 3;
             i += 1;
         } else {
@@ -83,33 +93,63 @@ fn write_gates(t: &[u32], u: &[u32], names: &[u32], out: &mut [u32]) -> usize
     at
 }
 
-// The closing lines of the trimmed table, from `from` on.
-fn write_closings(t: &[u32], names: &[u32], out: &mut [u32], from: usize)
+// The closing lines of the trimmed table, from `at` on. The result is the place behind them, where it ends.
+fn write_closings(t: &[u32], names: &[u32], out: &mut [u32], at: usize) -> usize
     requires { ⌜ WellFormed (now t) ⌝ }
     requires { ⌜ refs (now t) ≤ length (now names) ⌝ }
     requires { ⌜ take (refs (now t)) (now names) ≡ ranks (isKept (decode (now t))) (refs (now t)) ⌝ }
-    requires { ⌜ from + 3 * outputs (now t) ≤ length (now out) ⌝ }
-    ensures { λ _. ⌜ now (out .exit) ≡ sets (now (out .entry)) from (encodeLines (map closingLine (map (rank (isKept (decode (now (t .entry))))) (decode (now (t .entry)) .outputs)))) ⌝ }
+    requires { ⌜ at + 3 * outputs (now t) ≤ length (now out) ⌝ }
+    ensures { λ _. ⌜ now (out .exit) ≡ sets (now (out .entry)) at (encodeLines (map closingLine (trimmedOutputs (decode (now (t .entry)))))) ⌝ }
+    ensures { λ r. ⌜ r ≡ at + 3 * outputs (now (t .entry)) ⌝ }
 {
+    let from = closings_from(t);
     let outputs = t[2] as usize;
     for i in 0..outputs {
-        let reference = output_reference(t, i);
-        write_line(out, from + 3 * i, CLOSING, names[reference], 0);
+        let reference = output_reference(t, from, i);
+        write_row(out, at + 3 * i, CLOSING, names[reference], 0);
     }
+    at + 3 * outputs
 }
 
-// The trimmed table, of which `kept` is the number of gates.
-pub fn write_trimmed(t: &[u32], u: &[u32], names: &[u32], kept: u32, out: &mut [u32])
+// The trimmed table, of which `kept` is the number of gates. The result is where it ends.
+fn write_trimmed(t: &[u32], u: &[u32], names: &[u32], kept: u32, out: &mut [u32]) -> usize
     requires { ⌜ WellFormed (now t) ⌝ }
     requires { ⌜ refs (now t) ≤ length (now u) ⌝ }
     requires { ⌜ refs (now t) ≤ length (now names) ⌝ }
     requires { ⌜ take (refs (now t)) (now u) ≡ reverseDepths (decode (now t)) ⌝ }
     requires { ⌜ take (refs (now t)) (now names) ≡ ranks (isKept (decode (now t))) (refs (now t)) ⌝ }
-    requires { ⌜ kept ≡ length (keepGates (isKept (decode (now t))) (firstGate (inputs (now t))) (gateLines (now t))) ⌝ }
+    requires { ⌜ kept ≡ length (trimmedGates (decode (now t))) ⌝ }
     requires { ⌜ tableEnd (now t) ≤ length (now out) ⌝ }
-    ensures { λ _. ⌜ now (out .exit) ≡ sets (now (out .entry)) 0 (trimOf (now (t .entry))) ⌝ }
+    ensures { λ _. ⌜ now (out .exit) ≡ over (trimOf (now (t .entry))) (now (out .entry)) ⌝ }
+    ensures { λ r. ⌜ r ≡ length (trimOf (now (t .entry))) ⌝ }
 {
-    write_line(out, 0, t[0], kept, t[2]);
+    write_row(out, 0, t[0], kept, t[2]);
     let closings = write_gates(t, u, names, out);
-    write_closings(t, names, out, closings);
+    write_closings(t, names, out, closings)
+}
+
+// The trimmed table, over the front of out. It is no longer than the table itself. The result is where it ends.
+pub fn trim(t: &[u32], out: &mut [u32]) -> usize
+    requires { ⌜ WellFormed (now t) ⌝ }
+    requires { ⌜ tableEnd (now t) ≤ length (now out) ⌝ }
+    ensures { λ _. ⌜ now (out .exit) ≡ over (trimOf (now (t .entry))) (now (out .entry)) ⌝ }
+    ensures { λ r. ⌜ r ≡ length (trimOf (now (t .entry))) ⌝ }
+{
+    let mut u = [0u32; MAX_REFERENCES];
+    reverse_depths(t, &mut u);
+    trim_by_reverse_depths(t, &u, out)
+}
+
+// The same, where u begins with the reverse depths.
+pub fn trim_by_reverse_depths(t: &[u32], u: &[u32], out: &mut [u32]) -> usize
+    requires { ⌜ WellFormed (now t) ⌝ }
+    requires { ⌜ refs (now t) ≤ length (now u) ⌝ }
+    requires { ⌜ take (refs (now t)) (now u) ≡ reverseDepths (decode (now t)) ⌝ }
+    requires { ⌜ tableEnd (now t) ≤ length (now out) ⌝ }
+    ensures { λ _. ⌜ now (out .exit) ≡ over (trimOf (now (t .entry))) (now (out .entry)) ⌝ }
+    ensures { λ r. ⌜ r ≡ length (trimOf (now (t .entry))) ⌝ }
+{
+    let mut names = [0u32; MAX_REFERENCES];
+    let kept = rank_references(t, u, &mut names);
+    write_trimmed(t, u, &names, kept, out)
 }

@@ -20,10 +20,17 @@ pub fn load(name: &[u8], buffer: &mut [u8]) -> usize
     length
 }
 
+// A program has no exit status of its own, so output that is lost is told on standard error.
+fn print(text: &[u8]) {
+    if !io::write_all(STDOUT_FILENO, text) {
+        os::fail(b"standard output can't be written");
+    }
+}
+
 fn print_texts(circuit: &[u8], rules: &[u8], sites: &[u8]) {
     let mut out = [0u8; MAX_LISTING];
     let length = print_listing(circuit, rules, sites, &mut out);
-    io::write_all(STDOUT_FILENO, &out[..length]);
+    print(&out[..length]);
 }
 
 // Prints the listing for three files, or the line of the refusal (01, Marked examples, 1 and 2).

@@ -4,6 +4,7 @@ use mathlib.Core.Bool.{Bool, true, false, _&&_, and-true, and-false, and-assoc}
 use mathlib.Core.List.{List, [], _∷_, _++_, append-assoc}
 use Prim.Native.Nat.{ℕ, _+_, _≤_}
 use native.Mathlib.Nat.{add-zero}
+use native.Mathlib.Numerals.{add-one, add-two}
 use native.Mathlib.Omega.{arith}
 use lib.Dec.{eqb, leb}
 use lib.ListN.{length, take, drop, getD, set, length-append, length-drop}
@@ -161,3 +162,8 @@ line-row t r g = left-of (isRow (readLine t)) (same (take 19 t) (writeLine (read
 pub line-back : (t r : List ℕ) → isLine t ≡ true → writeLine (readLine t ++ r) ≡ take 19 t
 unfolding writeLine readLine isLine
 line-back t r g = sym (same-is (take 19 t) (writeLine (readLine t)) (right-of (isRow (readLine t)) (same (take 19 t) (writeLine (readLine t))) g))
+
+-- ---- a row stored number by number
+
+pub row-stores : (d : List ℕ) (at a b c : ℕ) → set (set (set d at a) (at + 1) b) (at + 2) c ≡ sets d at (a ∷ b ∷ c ∷ [])
+row-stores d at a b c = ap₂ (λ p q. set (set (set d at a) p b) q c) (add-one at) (add-two at)

@@ -1,6 +1,6 @@
 -- Texts and tables of whole lines: the first lines of a text, and what reading and writing make of all. Assumes nothing.
 use mathlib.Core.Path.{_≡_, refl, sym, ap, ap₂, _∙_}
-use mathlib.Core.Bool.{true, false, not}
+use mathlib.Core.Bool.{Bool, true, false, not, _&&_}
 use mathlib.Core.List.{List, [], _∷_, _++_}
 use Prim.Native.Nat.{ℕ, zero, suc, _+_, _*_, _/_, _%_, _≤_, _<_}
 use native.Mathlib.Nat.{mul-div-right, mul-mod-right, mul-pos}
@@ -15,7 +15,6 @@ use Rattle.lists.proofs.Fronts.{all-fewer, all-append, map-append, map-fewer}
 use Rattle.lines.specs.Number.{readNumber}
 use Rattle.lines.specs.Line.{isRow, isLine, readLine, writeLine}
 use Rattle.lines.specs.Text.{isPartial, isTable, readText, writeTable}
-use Rattle.lines.specs.Refusal.{Outcome}
 use Rattle.lines.specs.Calls.{over, reading, writing}
 use Rattle.lines.proofs.LineLaws.{row-length, line-length}
 use Rattle.lines.proofs.CallLaws.{Valid, whole-is, conversion-done}
@@ -26,6 +25,16 @@ unfolding isPartial
 whole-passes size n t p l s =
     let some : length t ≡ 0 → ⊥ = omega (arith, mul-pos {m = size} {n = n} p s) in
     rw (ne-eqb (length t) 0 some, eq-eqb (length t % size) 0 (ap (λ (k : ℕ). k % size) l ∙ mul-mod-right size n))
+
+-- whole lines that are right, as `isText` and `isTable` say it
+module _ (size : ℕ) (test : List ℕ → Bool) (t : List ℕ) where
+  pub valid-all : not (isPartial size t) && allRecords test size (length t / size) t ≡ true → Valid size test t (length t / size)
+  valid-all e =
+      let w = not-true (isPartial size t) (left-of (not (isPartial size t)) _ e) in
+      record { whole = whole-is size t w; not-partial = w; right = right-of (not (isPartial size t)) _ e }
+
+  pub all-valid : (n : ℕ) → Valid size test t n → not (isPartial size t) && allRecords test size (length t / size) t ≡ true
+  all-valid n v = rw (v .not-partial, ← v .whole .count) (v .right)
 
 -- ---- a line looks no further than its end
 
@@ -83,9 +92,9 @@ module _ (text : List ℕ) (n : ℕ) (v : Valid 19 isLine text n) (k : ℕ) (som
   front-length = ap length (sym front-numbers) ∙ map-length readLine 19 3 row-length k (take (19 * k) text)
 
   -- what the call `read` leaves
-  pub front-read : (table : List ℕ) → 3 * k ≤ length table → reading (take (19 * k) text) table .buffer ≡ over (take (3 * k) (readText text)) table
+  pub front-read : (table : List ℕ) → 3 * k ≤ length table → reading (take (19 * k) text) table .buffers ≡ over (take (3 * k) (readText text)) table
   front-read table room =
-      ap (λ (o : Outcome). o .buffer) (sym (conversion-done 19 3 isLine readLine (take (19 * k) text) table k front-valid row-length room _ refl))
+      ap (λ o. o .buffers) (sym (conversion-done 19 3 isLine readLine (take (19 * k) text) table k front-valid row-length room _ refl))
       ∙ ap₂ (λ x j. x ++ drop j table) front-numbers (sym front-length)
 
 -- all of its numbers
@@ -128,13 +137,11 @@ small-line a b c t ha hb hc s = (ha, (hb, (hc, s)))
 
 pub valid-table : (t : List ℕ) (n : ℕ) → Valid 3 isRow t n → isTable t ≡ true
 unfolding isTable
-valid-table t n v = rw (v .not-partial, ← v .whole .count) (v .right)
+valid-table = all-valid 3 isRow
 
 table-valid : (t : List ℕ) → isTable t ≡ true → Valid 3 isRow t (length t / 3)
 unfolding isTable
-table-valid t e =
-    let w = not-true (isPartial 3 t) (left-of (not (isPartial 3 t)) _ e) in
-    record { whole = whole-is 3 t w; not-partial = w; right = right-of (not (isPartial 3 t)) _ e }
+table-valid = valid-all 3 isRow
 
 pub bytes-length : (t : List ℕ) (n : ℕ) → length t ≡ 3 * n → length (writeTable t) ≡ 19 * n
 unfolding writeTable
@@ -142,10 +149,10 @@ bytes-length t n l =
     map-length writeLine 3 19 line-length (length t / 3) t ∙ ap (λ k. 19 * k) (ap (λ (k : ℕ). k / 3) l ∙ mul-div-right n (omega arith))
 
 -- what the call `write` leaves
-pub table-written : (t buffer : List ℕ) → isTable t ≡ true → length (writeTable t) ≤ length buffer → writing t buffer .buffer ≡ over (writeTable t) buffer
+pub table-written : (t buffer : List ℕ) → isTable t ≡ true → length (writeTable t) ≤ length buffer → writing t buffer .buffers ≡ over (writeTable t) buffer
 unfolding writeTable
 table-written t buffer e room =
     let l = map-length writeLine 3 19 line-length (length t / 3) t in
-    ap (λ (o : Outcome). o .buffer)
+    ap (λ o. o .buffers)
     (sym (conversion-done 3 19 isRow writeLine t buffer (length t / 3) (table-valid t e) line-length (omega (arith, l)) _ refl))
     ∙ ap (λ k. mapRecords writeLine 3 (length t / 3) t ++ drop k buffer) (sym l)

@@ -4,8 +4,7 @@ use mathlib.Core.List.{List, [], _∷_}
 use Rattle.lines.specs.declared.Answer.{Answer}
 use Rattle.lines.specs.declared.Answer.the-variants.{Lines, Refused}
 
--- A refusal is its number and a table. A success is the call's numbers: those that 01 names, such as D and N, and how many lines
--- were found, read, written or handed back, or outputs given.
+-- A refusal is its number and a table. A success is the call's numbers, such as how many lines were found, read or written.
 pub data Result : Type 0 where
   refused : (number table : ℕ) → Result
   gives : List ℕ → Result
@@ -19,10 +18,10 @@ abbrev pub paperValues : Answer → Result
 paperValues (Lines n) = gives (n ∷ [])
 paperValues (Refused r) = refused (r .number) (r .table)
 
--- What a call with one lent buffer gives back, and what the buffer then holds.
-pub record Outcome : Type 0 where
-  pub result : Result
-  pub buffer : List ℕ
+-- What a call gives back, and what the lent buffers then hold: the one list of most calls, or a record of lists.
+pub record Outcome (B : Type 0) : Type 0 where
+  pub answer : Result
+  pub buffers : B
 
-abbrev pub leaving : Result → List ℕ → Outcome
-leaving r b = record { result = r; buffer = b }
+abbrev pub leaving : {B : Type 0} → Result → B → Outcome B
+leaving r b = record { answer = r; buffers = b }

@@ -1,11 +1,19 @@
-// Whether all lines of a text, or all rows of a table, are right.
+// Whether a table is of whole rows, and whether all lines of a text, or all rows of a table, are right.
 ghost use mathlib.Core.Path.{_≡_};
 ghost use Prim.Native.Nat.{_*_, _≤_};
 ghost use lib.ListN.{length};
 ghost use Rattle.lists.specs.Records.{allRecords};
 ghost use Rattle.lines.specs.Line.{isRow, isLine};
+ghost use Rattle.lines.specs.Text.{isPartial};
 use crate::line::is_line;
 use crate::line::is_row;
+
+// Refusal 1 of a table: it is empty, or not a multiple of 3 numbers.
+pub fn is_partial(table: &[u32]) -> bool
+    ensures { λ r. ⌜ r ≡ isPartial 3 (now (table .entry)) ⌝ }
+{
+    (table.len() == 0) | (table.len() % 3 != 0)
+}
 
 // Whether each of the first `lines` lines is well written.
 pub fn are_lines(text: &[u8], lines: usize) -> bool

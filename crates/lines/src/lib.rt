@@ -2,8 +2,10 @@
 ghost use mathlib.Core.Path.{_≡_};
 ghost use Rattle.lines.specs.Line.{isRow};
 ghost use Rattle.lines.specs.Refusal.{paperValues, leaving};
+ghost use Rattle.lines.specs.Checks.{found};
 ghost use Rattle.lines.specs.Calls.{validation, validating, reading, writing};
 
+pub mod checked;
 mod checking;
 mod line;
 mod number;
@@ -11,8 +13,12 @@ mod text;
 
 use checking::are_lines;
 use checking::are_rows;
+pub use checking::is_partial;
 use text::read_lines;
 use text::write_lines;
+
+// 01's table where the fault lies in none.
+pub const NO_TABLE: u32 = 0;
 
 // Why a call was refused: 01's number, and the table that the fault lies in, 0 where it lies in none.
 pub struct Refusal {
@@ -26,13 +32,14 @@ pub enum Answer {
     Refused(Refusal),
 }
 
-fn refused(number: u32) -> Answer
-    ensures { λ r. ⌜ r ≡ Answer.Refused (record { number = number; table = 0 }) ⌝ }
+// Number 0 stands for no refusal.
+pub fn refuse(number: u32, table: u32) -> Refusal
+    ensures { λ r. ⌜ r ≡ found number table ⌝ }
 {
-    Answer::Refused(Refusal {
+    Refusal {
         number: number,
-        table: 0,
-    })
+        table: table,
+    }
 }
 
 // Tests a whole text of any length: refusal 1, then 3.
@@ -40,14 +47,14 @@ pub fn validate(text: &[u8]) -> Answer
     ensures { λ r. ⌜ paperValues r ≡ validating (now (text .entry)) ⌝ }
 {
     if text.len() == 0 {
-        return refused(1);
+        return Answer::Refused(refuse(1, NO_TABLE));
     }
     if text.len() % 19 != 0 {
-        return refused(1);
+        return Answer::Refused(refuse(1, NO_TABLE));
     }
     let lines = text.len() / 19;
     if !are_lines(text, lines) {
-        return refused(3);
+        return Answer::Refused(refuse(3, NO_TABLE));
     }
     Answer::Lines(lines)
 }
@@ -57,14 +64,14 @@ fn validate_table(table: &[u32]) -> Answer
     ensures { λ r. ⌜ paperValues r ≡ validation 3 isRow (now (table .entry)) ⌝ }
 {
     if table.len() == 0 {
-        return refused(1);
+        return Answer::Refused(refuse(1, NO_TABLE));
     }
     if table.len() % 3 != 0 {
-        return refused(1);
+        return Answer::Refused(refuse(1, NO_TABLE));
     }
     let rows = table.len() / 3;
     if !are_rows(table, rows) {
-        return refused(3);
+        return Answer::Refused(refuse(3, NO_TABLE));
     }
     Answer::Lines(rows)
 }
@@ -76,7 +83,7 @@ pub fn read(text: &[u8], table: &mut [u32]) -> Answer
     match validate(text) {
         Answer::Lines(lines) => {
             if table.len() < 3 * lines {
-                return refused(2);
+                return Answer::Refused(refuse(2, NO_TABLE));
             }
             read_lines(text, table, lines);
             Answer::Lines(lines)
@@ -92,7 +99,7 @@ pub fn write(table: &[u32], text: &mut [u8]) -> Answer
     match validate_table(table) {
         Answer::Lines(rows) => {
             if text.len() < 19 * rows {
-                return refused(2);
+                return Answer::Refused(refuse(2, NO_TABLE));
             }
             write_lines(table, text, rows);
             Answer::Lines(rows)

@@ -12,7 +12,7 @@ use lib.Seq.{length-take-le, take-all, getD-take}
 use borrow.Author.Tests.{ne-eqb, leb-true}
 use Rattle.lists.proofs.Tests.{left-of, right-of}
 use Rattle.lines.specs.Text.{isPartial}
-use Rattle.circuit.specs.Circuit.{maxInputs, maxGates, maxOutputs}
+use Rattle.circuit.specs.Circuit.{maxInputs, maxGates, maxOutputs, maxLines}
 use Rattle.circuit.specs.Table.{inputs, gates, outputs, tableEnd}
 use Rattle.circuit.specs.Refusal.{headInLimits, refusal}
 use Rattle.circuit.proofs.RefusalLaws.{refusal-head, refusal-lines}
@@ -23,7 +23,7 @@ use Rattle.rules.specs.SiteTable.{siteCount, maxSites, sitesEnd, sitesHeadInLim
 use Rattle.rules.proofs.RefusalLaws.{rules-walk}
 use Rattle.rules.proofs.SiteLaws.{sites-head, sites-lines}
 use Rattle.rules.proofs.WalkLaws.{limited-of, walk-limits, walk-over, walk-pass, walk-head, walk-top}
-use Rattle.napspruce.specs.Front.{maxCircuitLines, maxRulesLines, maxSitesLines, front}
+use Rattle.napspruce.specs.Front.{maxRulesLines, maxSitesLines, front}
 use Rattle.lines.proofs.TextLaws.{whole-passes}
 
 -- f is t, or both get the same refusal
@@ -73,7 +73,7 @@ module _ (refusal : List ℕ → ℕ) (head : List ℕ → Bool) (end : List ℕ
 
 -- ---- circuit and sites
 
-circuit-limit : (t : List ℕ) → headInLimits t ≡ true → tableEnd t ≤ 3 * maxCircuitLines
+circuit-limit : (t : List ℕ) → headInLimits t ≡ true → tableEnd t ≤ 3 * maxLines
 circuit-limit t h =
     let a = leb (inputs t) maxInputs in
     let b = leb (gates t) maxGates in
@@ -95,8 +95,8 @@ circuit-near most t l = rw (at-front most t l 0 (omega arith), at-front most t l
 sites-near : (most : ℕ) (t : List ℕ) → 3 * (most + 1) < length t → sitesHeadInLimits (front most t) ≡ sitesHeadInLimits t
 sites-near most t l = rw (at-front most t l 0 (omega arith), at-front most t l 1 (omega arith), at-front most t l 2 (omega arith))
 
-pub circuit-alike : (t : List ℕ) → isPartial 3 t ≡ false → Alike refusal (front maxCircuitLines t) t
-circuit-alike = headed-alike refusal headInLimits tableEnd maxCircuitLines refusal-head refusal-lines (circuit-near maxCircuitLines) circuit-limit
+pub circuit-alike : (t : List ℕ) → isPartial 3 t ≡ false → Alike refusal (front maxLines t) t
+circuit-alike = headed-alike refusal headInLimits tableEnd maxLines refusal-head refusal-lines (circuit-near maxLines) circuit-limit
 
 pub sites-alike : (t : List ℕ) → isPartial 3 t ≡ false → Alike sitesRefusal (front maxSitesLines t) t
 sites-alike = headed-alike sitesRefusal sitesHeadInLimits sitesEnd maxSitesLines sites-head sites-lines (sites-near maxSitesLines) sites-limit

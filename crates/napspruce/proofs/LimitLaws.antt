@@ -1,26 +1,25 @@
 -- What each call gives is within its limits. Assumes nothing.
 use mathlib.Core.Path.{_≡_}
-use mathlib.Core.Bool.{Bool, not}
-use mathlib.Core.List.{List, [], _∷_}
-use Prim.Native.Nat.{ℕ, _*_, _/_, _≤_}
+use mathlib.Core.Bool.{Bool}
+use mathlib.Core.List.{List, [], _∷_, _++_}
+use Prim.Native.Nat.{ℕ, _/_, _≤_}
 use native.Mathlib.Nat.{le-refl}
 use native.Mathlib.Omega.{arith}
-use lib.Dec.{eqb, leb, ltb}
+use lib.Dec.{leb}
 use lib.ListN.{length}
 use borrow.Author.Tests.{leb-true, ltb-false, not-false}
-use Rattle.lists.specs.Records.{allRecords}
-use Rattle.lists.proofs.First.{first-either}
 use Rattle.lists.proofs.Tests.{right-of}
-use Rattle.lines.specs.Text.{isPartial}
 use Rattle.lines.specs.Line.{isRow, isLine, readLine, writeLine}
-use Rattle.lines.specs.Refusal.{Result, refused, gives, Outcome}
-use Rattle.lines.specs.Calls.{conversion}
-use Rattle.circuit.specs.Circuit.{Circuit, maxGates, maxOutputs}
-use Rattle.circuit.specs.Table.{inputs, decode}
+use Rattle.lines.specs.Refusal.{gives, noTable}
+use Rattle.lines.specs.Checks.{found}
+use Rattle.lines.specs.Calls.{conversionChecks, conversion}
+use Rattle.lines.proofs.CheckLaws.{check-passed, answer-given, answer-either}
+use Rattle.circuit.specs.Circuit.{Circuit, maxGates}
+use Rattle.circuit.specs.Table.{decode}
 use Rattle.circuit.specs.Refusal.{refusal, circuitTable}
 use Rattle.circuit.specs.Depth.{circuitDepth}
 use Rattle.circuit.specs.Trim.{trim}
-use Rattle.circuit.specs.EvaluateCall.{evaluating}
+use Rattle.circuit.specs.EvaluateCall.{evaluateChecks, evaluating}
 use Rattle.circuit.specs.MeasureCall.{measuring}
 use Rattle.circuit.proofs.BoundLaws.{circuit-depth-le}
 use Rattle.circuit.proofs.RefusalLaws.{accepted-is-well-formed}
@@ -28,23 +27,23 @@ use Rattle.circuit.proofs.ValidLaws.{Limited, limited-decode}
 use Rattle.rules.specs.RuleRefusal.{rulesRefusal, rulesTable}
 use Rattle.rules.specs.SiteTable.{siteCount, sitesRefusal, sitesTable}
 use Rattle.rules.specs.JudgeCall.{judging}
-use Rattle.rules.specs.MatchCall.{matching}
+use Rattle.rules.specs.MatchCall.{matchChecks, matching}
 use Rattle.rules.proofs.RefusalLaws.{accepted-rules-are-well-formed}
 use Rattle.rules.proofs.SiteLaws.{accepted-sites-are-well-formed}
 use Rattle.rules.proofs.VerdictTheorems.{verdicts-are-small}
 use Rattle.rewriting.specs.Run.{startState, finalState}
-use Rattle.rewriting.specs.RewriteCall.{Outcome as RewriteOutcome, areShort, doneValues, rewriting}
+use Rattle.rewriting.specs.RewriteCall.{doneValues, rewriteChecks, rewriting}
 use Rattle.rewriting.proofs.PairLaws.{critical-limit}
 use Rattle.rewriting.proofs.RunLaws.{kept-limit}
 use Rattle.rewriting.proofs.Theorems.{limited-encoded, run-is-safe}
 use Rattle.translator.specs.Machine.{maxRegisters}
 use Rattle.translator.specs.Need.{need}
-use Rattle.translator.specs.TranslateCall.{programNumbers, isLimit, translating}
+use Rattle.translator.specs.TranslateCall.{isLimit, translateChecks, needChecks, translating}
 use Rattle.translator.proofs.Theorems.{program-count}
-use Rattle.napspruce.specs.ListingCall.{listTexts, putting, listingOutcome}
-use Rattle.napspruce.proofs.KnownLaws.{Known, known-texts}
-use Rattle.napspruce.proofs.RefusalLaws.{first-by, circuit-known, rules-known, sites-known, found-within, none-found}
-use Rattle.napspruce.specs.Limits.{EachWithin, Within, evaluateLimits, measureLimits, judgeLimits, matchLimits, rewriteLimits, translateLimits, listingLimits}
+use Rattle.napspruce.specs.ListingCall.{listingOutcome}
+use Rattle.napspruce.proofs.KnownLaws.{length-within}
+use Rattle.napspruce.proofs.RefusalLaws.{check-within, circuit-within, rules-within, tables-within}
+use Rattle.napspruce.specs.Limits.{EachWithin, Within, evaluateLimits, measureLimits, judgeLimits, matchLimits, rewriteLimits, translateLimits}
 use Rattle.napspruce.specs.Theorems.{ReadIsWithin, WriteIsWithin, EvaluateIsWithin, MeasureIsWithin, JudgeIsWithin, MatchIsWithin, RewriteIsWithin, TranslateIsWithin, ListingIsWithin}
 
 -- ---- D of a circuit
@@ -54,35 +53,20 @@ depth-limit c l = omega (arith, circuit-depth-le c, l .gates-limit)
 
 -- ---- the calls
 
-module _ (limits : List ℕ) where
-  abbrev OutcomeWithin : Outcome → Type 0
-  OutcomeWithin o = Within limits (o .result)
+module _ (size width : ℕ) (test : List ℕ → Bool) (make : List ℕ → List ℕ) (source buffer : List ℕ) where
+  conversion-within : Within (length source / size ∷ []) (conversion size width test make source buffer .answer)
+  unfolding conversion
+  conversion-within =
+      answer-either (conversionChecks size width test source buffer) _ (Within (length source / size ∷ [])) (
+        check-within noTable (omega arith) _ 1 (omega arith),
+        (check-within noTable (omega arith) _ 3 (omega arith), (check-within noTable (omega arith) _ 2 (omega arith), tt)),
+      )
+      (λ p. (le-refl (length source / size), tt))
 
-  abbrev AnswerWithin : RewriteOutcome → Type 0
-  AnswerWithin o = Within limits (o .answer)
-
-conversion-within : (size width : ℕ) (test : List ℕ → Bool) (make : List ℕ → List ℕ) (source buffer : List ℕ)
-    → Within (length source / size ∷ []) (conversion size width test make source buffer .result)
-unfolding conversion
-conversion-within size width test make source buffer =
-    let within = OutcomeWithin (length source / size ∷ []) in
-    first-either within (isPartial size source) (omega arith, omega arith, omega arith)
-    (first-either within (not (allRecords test size (length source / size) source)) (omega arith, omega arith, omega arith)
-    (first-either within (ltb (length buffer) (width * (length source / size))) (omega arith, omega arith, omega arith)
-    (le-refl (length source / size), tt)))
-
--- and its number of lines is the source's
-pub conversion-lines : (size width : ℕ) (test : List ℕ → Bool) (make : List ℕ → List ℕ) (source buffer values : List ℕ)
-    → conversion size width test make source buffer .result ≡ gives values → values ≡ length source / size ∷ []
-unfolding conversion
-conversion-lines size width test make source buffer values e =
-    let lines : Outcome → Type 0 = λ o. o .result ≡ gives values → values ≡ length source / size ∷ [] in
-    first-either lines (isPartial size source) (not-given 1 0 values)
-    (first-either lines (not (allRecords test size (length source / size) source)) (not-given 3 0 values)
-    (first-either lines (ltb (length buffer) (width * (length source / size))) (not-given 2 0 values) (λ q. cc))) e
-  where
-    not-given : (number table : ℕ) (values : List ℕ) → refused number table ≡ gives values → values ≡ length source / size ∷ []
-    not-given number table values q = let z : _≡_ {A = ℕ} 0 1 = cc in absurd (omega arith)
+  -- and its number of lines is the source's
+  pub conversion-lines : (values : List ℕ) → conversion size width test make source buffer .answer ≡ gives values → values ≡ length source / size ∷ []
+  unfolding conversion
+  conversion-lines values e = answer-given (conversionChecks size width test source buffer) _ values e .1
 
 pub read-is-within : ReadIsWithin
 read-is-within = conversion-within 19 3 isLine readLine
@@ -93,35 +77,31 @@ write-is-within = conversion-within 3 19 isRow writeLine
 pub evaluate-is-within : EvaluateIsWithin
 unfolding evaluating
 evaluate-is-within circuit inputBytes outputBytes =
-    let within = OutcomeWithin evaluateLimits in
-    first-either within (isPartial 3 circuit) (omega arith, omega arith, omega arith)
-    (first-either within (ltb (length outputBytes) maxOutputs) (omega arith, omega arith, omega arith)
-    (first-by within (not (eqb (refusal circuit) 0)) (found-within (refusal circuit) evaluateLimits circuitTable (circuit-known circuit) (omega arith))
-    (λ e. first-either within (not (eqb (length inputBytes) (inputs circuit))) (omega arith, omega arith, omega arith)
-    (accepted-is-well-formed circuit .0 (none-found (refusal circuit) e) .sized .outputs-limit, tt))))
+    answer-either (evaluateChecks circuit inputBytes outputBytes) _ (Within evaluateLimits) (
+      check-within circuitTable (omega arith) _ 1 (omega arith),
+      (check-within noTable (omega arith) _ 2 (omega arith), (circuit-within circuit, (check-within noTable (omega arith) _ 1 (omega arith), tt))),
+    )
+    (λ p. (accepted-is-well-formed circuit .0 (p .1 .1 .0) .sized .outputs-limit, tt))
 
 pub measure-is-within : MeasureIsWithin
 unfolding measuring
 measure-is-within circuit =
-    first-by (Within measureLimits) (not (eqb (refusal circuit) 0)) (found-within (refusal circuit) measureLimits circuitTable (circuit-known circuit) (omega arith))
-    (λ e. let l = limited-decode circuit (accepted-is-well-formed circuit .0 (none-found (refusal circuit) e) .sized) in
-    (depth-limit (decode circuit) l, (critical-limit (decode circuit) l, tt)))
+    answer-either (found (refusal circuit) circuitTable ∷ []) _ (Within measureLimits) (circuit-within circuit, tt)
+    (λ p. let l = limited-decode circuit (accepted-is-well-formed circuit .0 (p .0) .sized) in (depth-limit (decode circuit) l, (critical-limit (decode circuit) l, tt)))
 
 pub judge-is-within : JudgeIsWithin
 unfolding judging
 judge-is-within rules rule =
-    first-by (Within judgeLimits) (not (eqb (rulesRefusal rules) 0)) (found-within (rulesRefusal rules) judgeLimits rulesTable (rules-known rules) (omega arith))
-    (λ e. (verdicts-are-small (decode []) rules rule 0 0 .0, tt))
+    answer-either (found (rulesRefusal rules) rulesTable ∷ []) _ (Within judgeLimits) (rules-within rules, tt) (λ p. (verdicts-are-small (decode []) rules rule 0 0 .0, tt))
 
 pub match-is-within : MatchIsWithin
 unfolding matching
 match-is-within circuit rules rule gate mask =
-    let within = Within matchLimits in
-    first-either within (isPartial 3 circuit) (omega arith, omega arith, omega arith)
-    (first-either within (isPartial 3 rules) (omega arith, omega arith, omega arith)
-    (first-by within (not (eqb (refusal circuit) 0)) (found-within (refusal circuit) matchLimits circuitTable (circuit-known circuit) (omega arith))
-    (λ c. first-by within (not (eqb (rulesRefusal rules) 0)) (found-within (rulesRefusal rules) matchLimits rulesTable (rules-known rules) (omega arith))
-    (λ r. (verdicts-are-small (trim (decode circuit)) rules rule gate mask .1, tt)))))
+    answer-either (matchChecks circuit rules) _ (Within matchLimits) (
+      check-within circuitTable (omega arith) _ 1 (omega arith),
+      (check-within rulesTable (omega arith) _ 1 (omega arith), (circuit-within circuit, (rules-within rules, tt))),
+    )
+    (λ p. (verdicts-are-small (trim (decode circuit)) rules rule gate mask .1, tt))
 
 -- the numbers of a rewriting
 done-within : (circuit rules sites : List ℕ) → refusal circuit ≡ 0 → rulesRefusal rules ≡ 0 → sitesRefusal sites ≡ 0
@@ -147,36 +127,31 @@ done-within circuit rules sites okc okr oks =
 pub rewrite-is-within : RewriteIsWithin
 unfolding rewriting
 rewrite-is-within circuit rules sites result work verdicts =
-    let within = AnswerWithin rewriteLimits in
-    first-either within (isPartial 3 circuit) (omega arith, omega arith, omega arith)
-    (first-either within (isPartial 3 rules) (omega arith, omega arith, omega arith)
-    (first-either within (isPartial 3 sites) (omega arith, omega arith, omega arith)
-    (first-either within (areShort result work verdicts) (omega arith, omega arith, omega arith)
-    (first-by within (not (eqb (refusal circuit) 0)) (found-within (refusal circuit) rewriteLimits circuitTable (circuit-known circuit) (omega arith))
-    (λ c. first-by within (not (eqb (rulesRefusal rules) 0)) (found-within (rulesRefusal rules) rewriteLimits rulesTable (rules-known rules) (omega arith))
-    (λ r. first-by within (not (eqb (sitesRefusal sites) 0)) (found-within (sitesRefusal sites) rewriteLimits sitesTable (sites-known sites) (omega arith))
-    (λ s. done-within circuit rules sites (none-found (refusal circuit) c) (none-found (rulesRefusal rules) r) (none-found (sitesRefusal sites) s))))))))
+    answer-either (rewriteChecks circuit rules sites result work verdicts) _ (Within rewriteLimits) (
+      check-within circuitTable (omega arith) _ 1 (omega arith),
+      (
+        check-within rulesTable (omega arith) _ 1 (omega arith),
+        (check-within sitesTable (omega arith) _ 1 (omega arith), (check-within noTable (omega arith) _ 2 (omega arith), tables-within circuit rules sites)),
+      ),
+    )
+    (λ p. let q = p .1 .1 .1 .1 in done-within circuit rules sites (q .0) (q .1 .0) (q .1 .1 .0))
 
 pub translate-is-within : TranslateIsWithin
 unfolding translating
 translate-is-within circuit limit program =
-    let within = OutcomeWithin translateLimits in
-    let n = need (trim (decode circuit)) in
-    first-either within (isPartial 3 circuit) (omega arith, omega arith, omega arith)
-    (first-either within (ltb (length program) programNumbers) (omega arith, omega arith, omega arith)
-    (first-by within (not (eqb (refusal circuit) 0)) (found-within (refusal circuit) translateLimits circuitTable (circuit-known circuit) (omega arith))
-    (λ c. first-by within (not (isLimit limit)) (λ e. (omega arith, omega arith, omega arith))
-    (λ l. first-by within (ltb limit n) (λ e. (omega arith, omega arith, omega arith))
-    (λ s. let w = accepted-is-well-formed circuit .0 (none-found (refusal circuit) c) in
-    let most : limit ≤ maxRegisters = leb-true limit maxRegisters (right-of (leb 1 limit) _ (not-false (isLimit limit) l)) in
-    (program-count circuit w .1, (omega (arith, most, ltb-false limit n s), tt)))))))
-
--- a length among what is known of a listing
-put-within : (x : Result) (buffer : List ℕ) → Known x → Within listingLimits (putting x buffer .result)
-put-within (refused number table) buffer k = k
-put-within (gives bytes) buffer k = (k .1, tt)
+    let c = trim (decode circuit) in
+    answer-either (translateChecks circuit limit program ++ needChecks limit c) _ (Within translateLimits) (
+      check-within circuitTable (omega arith) _ 1 (omega arith),
+      (
+        check-within noTable (omega arith) _ 2 (omega arith),
+        (circuit-within circuit, (check-within noTable (omega arith) _ 9 (omega arith), (check-within noTable (omega arith) _ 10 (omega arith), tt))),
+      ),
+    )
+    (λ p.
+    let most : limit ≤ maxRegisters = leb-true limit maxRegisters (right-of (leb 1 limit) _ (not-false (isLimit limit) (check-passed _ 8 noTable (p .1 .1 .1 .0)))) in
+    let enough : need c ≤ limit = ltb-false limit (need c) (check-passed _ 9 noTable (p .1 .1 .1 .1 .0)) in
+    (program-count circuit (accepted-is-well-formed circuit .0 (p .1 .1 .0)) .1, (omega arith, tt)))
 
 pub listing-is-within : ListingIsWithin
 unfolding listingOutcome
-listing-is-within circuit rules sites listing =
-    put-within (listTexts circuit rules sites (length listing)) listing (known-texts circuit rules sites (length listing))
+listing-is-within circuit rules sites listing = length-within circuit rules sites (length listing)

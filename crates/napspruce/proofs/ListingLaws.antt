@@ -10,7 +10,7 @@ use lib.ListN.{length, getD, length-append}
 use Rattle.lines.specs.Line.{isRow}
 use Rattle.lines.proofs.CallLaws.{Valid}
 use Rattle.lines.proofs.TextLaws.{AllSmall, small-append, small-rows, small-line, whole-passes}
-use Rattle.circuit.specs.Circuit.{Gate, Circuit, closingKind, firstGate, noGate}
+use Rattle.circuit.specs.Circuit.{Gate, Circuit, closingKind, firstGate, noGate, lineCount}
 use Rattle.circuit.specs.Table.{decode, closingLine, encodeLines, encode}
 use Rattle.circuit.specs.Depth.{circuitDepth}
 use Rattle.circuit.specs.Critical.{criticalCount}
@@ -26,7 +26,6 @@ use Rattle.circuit.proofs.ValidLaws.{among-head, among-tail, limited-decode}
 use Rattle.rules.specs.SiteTable.{siteCount}
 use Rattle.rules.specs.WellFormed.{WellFormedSites}
 use Rattle.rewriting.specs.Run.{startState, finalState, allVerdicts}
-use Rattle.rewriting.specs.RewriteCall.{lineCount}
 use Rattle.rewriting.specs.SafeRun.{SafeRun}
 use Rattle.rewriting.proofs.RunLaws.{kept-limit}
 use Rattle.rewriting.proofs.Theorems.{valid-encoded, limited-encoded}

@@ -1,15 +1,17 @@
 -- The theorems on the listing and on what the program prints. Assumes nothing.
-use mathlib.Core.Path.{_≡_, refl, sym, ap, ap₂, _∙_}
+use mathlib.Core.Path.{_≡_, sym, ap, ap₂, _∙_}
 use mathlib.Core.List.{List, [], _∷_}
 use Prim.Native.Nat.{ℕ, _-_, _≤_}
 use native.Mathlib.Omega.{arith}
-use lib.ListN.{length}
-use Rattle.lines.specs.Refusal.{Result, refused, gives, Outcome, leaving}
-use Rattle.lines.specs.Text.{writeTable}
+use lib.ListN.{length, getD}
+use Rattle.lines.specs.Refusal.{Result, refused, gives, leaving}
+use Rattle.lines.specs.Text.{readText, writeTable}
+use Rattle.lines.specs.Checks.{found, buffersAfter}
 use Rattle.lines.specs.Calls.{over}
+use Rattle.lines.proofs.CheckLaws.{answer-refused, answer-gives, answer-given, answer-turned}
 use Rattle.lines.proofs.Theorems.{read-after-write}
-use Rattle.napspruce.specs.Listing.{listingTable}
-use Rattle.napspruce.specs.ListingCall.{maxListing, listTexts, putting, listingOutcome}
+use Rattle.napspruce.specs.Listing.{listingTable, listingText}
+use Rattle.napspruce.specs.ListingCall.{maxListing, listChecks, listTexts, listingOutcome}
 use Rattle.napspruce.specs.Limits.{Within, listingLimits}
 use Rattle.napspruce.specs.Printed.{refusalKind, printedOf, printed}
 use Rattle.napspruce.specs.Theorems.{ListedIsSafe, ListedIsText, RefusalKeepsBuffer, ListingIsPrinted, RefusalIsPrinted, PrintedFits}
@@ -17,7 +19,7 @@ use Rattle.napspruce.proofs.ListingLaws.{listing-valid}
 use Rattle.lines.proofs.TextLaws.{valid-table}
 use Rattle.napspruce.proofs.WriteLaws.{refusal-length}
 use Rattle.napspruce.proofs.LimitLaws.{listing-is-within}
-use Rattle.napspruce.proofs.KnownLaws.{Known, known-tables, known-texts, tables-given, texts-given, texts-room}
+use Rattle.napspruce.proofs.KnownLaws.{Known, known-tables, known-texts, tables-given, room-passed, texts-room}
 
 -- ---- the listing
 
@@ -36,36 +38,28 @@ listed-is-text circuit rules sites bytes e =
 
 -- ---- the call
 
-module _ (buffer : List ℕ) where
-  put-refused : (x : Result) (number table : ℕ) → putting x buffer .result ≡ refused number table → (x ≡ refused number table) × (putting x buffer .buffer ≡ buffer)
-  put-refused (refused n t) number table e = (e, refl)
-  put-refused (gives bytes) number table e = let z : _≡_ {A = ℕ} 0 1 = cc in absurd (omega arith)
-
-  put-given : (x : Result) (n : ℕ) → putting x buffer .result ≡ gives (n ∷ [])
-      → (n ≡ length (printedOf x)) × (putting x buffer .buffer ≡ over (printedOf x) buffer) × (x ≡ gives (printedOf x))
-  put-given (refused m t) n e = let z : _≡_ {A = ℕ} 0 1 = cc in absurd (omega arith)
-  put-given (gives bytes) n e = (cc, refl, refl)
+abbrev text : (circuit rules sites : List ℕ) → List ℕ
+text circuit rules sites = listingText (readText circuit) (readText rules) (readText sites)
 
 pub refusal-keeps-buffer : RefusalKeepsBuffer
 unfolding listingOutcome
-refusal-keeps-buffer circuit rules sites buffer number table e = put-refused buffer (listTexts circuit rules sites (length buffer)) number table e .1
+refusal-keeps-buffer circuit rules sites buffer number table e = ap (λ r. buffersAfter r buffer (over (text circuit rules sites) buffer)) e
 
 -- ---- the program
 
 pub listing-is-printed : ListingIsPrinted
-unfolding listingOutcome printed
+unfolding listingOutcome listTexts printed
 listing-is-printed circuit rules sites buffer n e =
-    let x = listTexts circuit rules sites (length buffer) in
-    let (l, b, g) = put-given buffer x n e in
-    let same : printedOf x ≡ printedOf (listTexts circuit rules sites maxListing) =
-    ap printedOf (texts-room circuit rules sites (length buffer) (texts-given circuit rules sites (length buffer) _ g)) in
-    (l ∙ ap length same, b ∙ ap (λ y. over y buffer) same)
+    let (p, v) = answer-given (listChecks circuit rules sites (length buffer)) _ _ e in
+    let same : printed circuit rules sites ≡ text circuit rules sites =
+    ap printedOf (sym (texts-room circuit rules sites (length buffer) (room-passed circuit rules sites (length buffer) p)) ∙ answer-gives (listChecks circuit rules sites (length buffer)) _ p) in
+    (ap (λ l. getD l 0 0) v ∙ ap length (sym same), ap (λ r. buffersAfter r buffer (over (text circuit rules sites) buffer)) e ∙ ap (λ y. over y buffer) (sym same))
 
 pub refusal-is-printed : RefusalIsPrinted
-unfolding listingOutcome printed
+unfolding listingOutcome listTexts printed
 refusal-is-printed circuit rules sites buffer number table h e =
-    let x = listTexts circuit rules sites (length buffer) in
-    ap printedOf (sym (texts-room circuit rules sites (length buffer) h) ∙ put-refused buffer x number table e .0)
+    let (q, some) = answer-turned (listChecks circuit rules sites (length buffer)) _ number table e in
+    ap printedOf (sym (texts-room circuit rules sites (length buffer) h) ∙ answer-refused (listChecks circuit rules sites (length buffer)) _ (found number table) q some)
 
 fits-known : (x : Result) → Known x → (19 ≤ length (printedOf x)) × (length (printedOf x) ≤ maxListing)
 fits-known (refused number table) k = let l = refusal-length number table in (omega (arith, l), omega (arith, l))
@@ -81,12 +75,12 @@ module _ (circuit rules sites buffer : List ℕ) where
   pub printed-listing : (n : ℕ) (after : List ℕ) → leaving (gives (n ∷ [])) after ≡ listingOutcome circuit rules sites buffer
       → (n ≡ length (printed circuit rules sites)) × (after ≡ over (printed circuit rules sites) buffer)
   printed-listing n after q =
-      let (l, b) = listing-is-printed circuit rules sites buffer n (ap (λ (o : Outcome). o .result) (sym q)) in
-      (l, ap (λ (o : Outcome). o .buffer) q ∙ b)
+      let (l, b) = listing-is-printed circuit rules sites buffer n (ap (λ o. o .answer) (sym q)) in
+      (l, ap (λ o. o .buffers) q ∙ b)
 
   module _ (number table : ℕ) (after : List ℕ) (q : leaving (refused number table) after ≡ listingOutcome circuit rules sites buffer) where
-    refused-result : listingOutcome circuit rules sites buffer .result ≡ refused number table
-    refused-result = ap (λ (o : Outcome). o .result) (sym q)
+    refused-result : listingOutcome circuit rules sites buffer .answer ≡ refused number table
+    refused-result = ap (λ o. o .answer) (sym q)
 
     pub refused-small : (number ≤ 999999) × (table ≤ 999999)
     refused-small =
@@ -98,5 +92,5 @@ module _ (circuit rules sites buffer : List ℕ) where
         → (n ≡ length (printed circuit rules sites)) × (out ≡ over (printed circuit rules sites) buffer)
     printed-refusal room n out l e =
         let p = sym (refusal-is-printed circuit rules sites buffer number table room refused-result) in
-        let kept : after ≡ buffer = ap (λ (o : Outcome). o .buffer) q ∙ refusal-keeps-buffer circuit rules sites buffer number table refused-result in
+        let kept : after ≡ buffer = ap (λ o. o .buffers) q ∙ refusal-keeps-buffer circuit rules sites buffer number table refused-result in
         (l ∙ ap length p, e ∙ ap₂ (λ x y. over x y) p kept)

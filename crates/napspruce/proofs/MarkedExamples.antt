@@ -8,7 +8,7 @@ use Rattle.lists.specs.Records.{mapRecords, allRecords}
 use Rattle.lines.specs.Number.{digits, writeNumber, readNumber}
 use Rattle.lines.specs.Line.{isRow, writeLine, readLine, isLine}
 use Rattle.lines.specs.Text.{isPartial, readText, writeTable}
-use Rattle.lines.specs.Calls.{validation}
+use Rattle.lines.specs.Checks.{check, firstFound, answering}
 use Rattle.circuit.specs.Table.{linesOf, encodeLines, encode}
 use Rattle.circuit.specs.Each.{allGates, countGates}
 use Rattle.circuit.specs.Evaluation.{bitOp}
@@ -32,26 +32,25 @@ use Rattle.rewriting.specs.Replacement.{instanceOf, renumber, replace}
 use Rattle.rewriting.specs.Verdict.{verdictOf}
 use Rattle.rewriting.specs.Run.{step, afterSites}
 use Rattle.rewriting.specs.RewriteCall.{doneValues, rewriting}
-use Rattle.translator.specs.LiveRange.{isReady}
-use Rattle.translator.specs.Need.{need}
-use Rattle.translator.specs.Steps.{outputLoads, stepsFrom, steps, isRead}
+use Rattle.translator.specs.Need.{countBelow, need}
+use Rattle.translator.specs.Actions.{outputLoads, actionsFrom, actions, isRead}
 use Rattle.translator.specs.Allocation.{assign, release, releaseOperands, allocate}
 use Rattle.translator.specs.Program.{program}
 use Rattle.translator.specs.TranslateCall.{translating}
 use Rattle.napspruce.specs.Listing.{summary, verdictLines, listingTable}
-use Rattle.napspruce.specs.ListingCall.{textRefusal, listTables, listTexts, listingOutcome}
+use Rattle.napspruce.specs.ListingCall.{textRefusal, listTexts, listingOutcome}
 use Rattle.napspruce.specs.Printed.{printed}
 use Rattle.napspruce.specs.MarkedExamples.{MarkedExamplesHold}
 
 pub marked-examples-hold : MarkedExamplesHold
 unfolding bind
     same allBelow mapBelow appendEach mapRecords allRecords
-    digits writeNumber readNumber isRow writeLine readLine isLine isPartial readText writeTable validation
+    digits writeNumber readNumber isRow writeLine readLine isLine isPartial readText writeTable check firstFound answering
     linesOf encodeLines encode allGates countGates bitOp isAmong isUsed refusal depths largest circuitDepth markOutputs raiseOperands
     raiseGates reverseDepths criticalCount rank keepGates trim measuring
     placeFrom walk walkFromTop allRules rulesRefusal sitesRefusal isSound bindReference bindOperands matchGate matchGates matchRule
     judgement matchAt matchSite judging matching
     isLower instanceOf renumber replace verdictOf step afterSites doneValues rewriting
-    isReady need outputLoads stepsFrom steps isRead assign release releaseOperands allocate program translating
-    summary verdictLines listingTable textRefusal listTables listTexts listingOutcome printed
+    countBelow need outputLoads actionsFrom actions isRead assign release releaseOperands allocate program translating
+    summary verdictLines listingTable textRefusal listTexts listingOutcome printed
 marked-examples-hold = refl

@@ -9,13 +9,15 @@ use lib.ListN.{getD}
 use lib.Arith.{digits-div, digits-mod}
 use borrow.Author.Tests.{eq-eqb, ne-eqb}
 use Rattle.lines.specs.Refusal.{Result, refused, gives}
-use Rattle.circuit.specs.Table.{gates, outputs}
+use Rattle.circuit.specs.Circuit.{maxGates, maxDepth, lineCount}
+use Rattle.circuit.specs.Table.{decode}
+use Rattle.rules.specs.SiteTable.{maxSites}
 use Rattle.napspruce.specs.Packing.{packRefusal, pack, isRefusal, unpack, packOne, unpackOne, packTwo, packPair, unpackPair, packTranslation, unpackTranslation, packFields, packRewriting, unpackRewriting}
-use Rattle.napspruce.specs.Limits.{EachWithin, Within, measureLimits, rewriteLimits, translateLimits}
+use Rattle.napspruce.specs.Limits.{lastRefusal, lastTable, EachWithin, Within, measureLimits, rewriteLimits, translateLimits}
 
 -- ---- refusals
 
-module _ (number table : ℕ) (h : number ≤ 10) (l : table ≤ 3) where
+module _ (number table : ℕ) (h : number ≤ lastRefusal) (l : table ≤ lastTable) where
   pub refusal-told : packRefusal number table / 1000 ≡ 1000
   refusal-told = omega arith
 
@@ -93,7 +95,7 @@ translation-values (k ∷ n ∷ x ∷ xs) w = absurd (w .1 .1)
 -- ---- five numbers
 
 -- the last one tells a success from a refusal
-last-told : (rest last : ℕ) → last ≤ 512 → (rest * 2 ^ 12 + last) / 1000 ≡ 1000 → ⊥
+last-told : (rest last : ℕ) → last ≤ maxSites → (rest * 2 ^ 12 + last) / 1000 ≡ 1000 → ⊥
 last-told rest last h e = elim (decLt rest 245) [ yes l ↦ omega (arith, e, h, l) | no l ↦ omega (arith, e, h, l) ]
 
 pub rewriting-told : (values : List ℕ) → EachWithin rewriteLimits values → isRefusal (packRewriting values) ≡ false
@@ -107,7 +109,7 @@ field : (rest value low width : ℕ) → value < 2 ^ 12 → low < width → ((re
 field rest value low width h l = ap (λ n. n % 2 ^ 12) (digits-div (rest * 2 ^ 12 + value) l) ∙ digits-mod rest h
 
 -- with the lines, which the result table's head says
-module _ (lines : ℕ) (result : List ℕ) (head : 1 + gates result + outputs result ≡ lines) (a b c d e : ℕ) (hb : b ≤ 2048) (hc : c ≤ 2048) (hd : d ≤ 2048) (he : e ≤ 512) where
+module _ (lines : ℕ) (result : List ℕ) (head : lineCount (decode result) ≡ lines) (a b c d e : ℕ) (hb : b ≤ maxGates) (hc : c ≤ maxDepth) (hd : d ≤ maxGates) (he : e ≤ maxSites) where
   abbrev packed : ℕ
   packed = packFields a b c d e
 
@@ -139,7 +141,7 @@ module _ (lines : ℕ) (result : List ℕ) (head : 1 + gates result + outputs re
   fields-same : unpackRewriting result packed ≡ lines ∷ a ∷ b ∷ c ∷ d ∷ e ∷ []
   fields-same = ap₂ _∷_ head (ap₂ _∷_ old-depth (ap₂ _∷_ old-critical (ap₂ _∷_ new-depth (ap₂ _∷_ new-critical (ap (λ x. x ∷ []) kept-last)))))
 
-pub rewriting-values : (result values : List ℕ) → 1 + gates result + outputs result ≡ getD values 0 0 → EachWithin rewriteLimits values
+pub rewriting-values : (result values : List ℕ) → lineCount (decode result) ≡ getD values 0 0 → EachWithin rewriteLimits values
     → Unpacked packRewriting (unpackRewriting result) values
 rewriting-values result [] h w = absurd w
 rewriting-values result (n ∷ []) h w = absurd (w .1)

@@ -1,22 +1,21 @@
 -- The packing of what each call gives loses nothing. Assumes nothing.
 use mathlib.Core.Path.{_≡_, refl, sym, ap, ap₂, _∙_}
 use mathlib.Core.List.{List, [], _∷_}
-use Prim.Native.Nat.{ℕ, _+_, _/_}
+use Prim.Native.Nat.{ℕ, _/_}
 use native.Mathlib.Omega.{arith}
 use lib.ListN.{length, getD}
 use Rattle.lines.specs.Refusal.{gives}
 use Rattle.lines.specs.Calls.{reading, writing}
-use Rattle.circuit.specs.Circuit.{Circuit}
-use Rattle.circuit.specs.Table.{gates, outputs, decode}
+use Rattle.circuit.specs.Circuit.{maxOutputs, lineCount}
+use Rattle.circuit.specs.Table.{decode}
 use Rattle.circuit.specs.EvaluateCall.{evaluating}
 use Rattle.circuit.specs.MeasureCall.{measuring}
-use Rattle.circuit.proofs.TableLaws.{gates-length, outputs-length}
-use Rattle.circuit.proofs.FrontLaws.{begins-over, begins-decode}
+use Rattle.circuit.proofs.FrontLaws.{decode-over}
 use Rattle.rules.specs.JudgeCall.{judging}
 use Rattle.rules.specs.MatchCall.{matching}
 use Rattle.rewriting.specs.Run.{finalState}
 use Rattle.rewriting.specs.RewriteCall.{doneValues, rewriting}
-use Rattle.rewriting.proofs.Theorems.{success-is-safe, success-leaves-table}
+use Rattle.rewriting.proofs.Theorems.{valid-encoded, success-is-safe, success-leaves-table}
 use Rattle.translator.specs.TranslateCall.{translating}
 use Rattle.napspruce.specs.ListingCall.{maxListing, listingOutcome}
 use Rattle.napspruce.specs.Packing.{packLines, unpackLines, packOne, unpackOne, packPair, unpackPair, packTranslation, unpackTranslation, packRewriting, unpackRewriting}
@@ -27,18 +26,18 @@ use Rattle.napspruce.proofs.LimitLaws.{read-is-within, write-is-within,
 
 pub read-unpacks : ReadUnpacks
 read-unpacks text table =
-    unpacks packLines (unpackLines 19 text) (length text / 19 ∷ []) (reading text table .result) (read-is-within text table)
+    unpacks packLines (unpackLines 19 text) (length text / 19 ∷ []) (reading text table .answer) (read-is-within text table)
     (λ values e w. record { told = refl; same = sym (conversion-lines 19 3 _ _ text table values e) })
 
 pub write-unpacks : WriteUnpacks
 write-unpacks table text =
-    unpacks packLines (unpackLines 3 table) (length table / 3 ∷ []) (writing table text .result) (write-is-within table text)
+    unpacks packLines (unpackLines 3 table) (length table / 3 ∷ []) (writing table text .answer) (write-is-within table text)
     (λ values e w. record { told = refl; same = sym (conversion-lines 3 19 _ _ table text values e) })
 
 pub evaluate-unpacks : EvaluateUnpacks
 evaluate-unpacks circuit inputBytes outputBytes =
-    unpacks packOne unpackOne evaluateLimits (evaluating circuit inputBytes outputBytes .result) (evaluate-is-within circuit inputBytes outputBytes)
-    (λ values e w. one-value 256 (omega arith) values w)
+    unpacks packOne unpackOne evaluateLimits (evaluating circuit inputBytes outputBytes .answer) (evaluate-is-within circuit inputBytes outputBytes)
+    (λ values e w. one-value maxOutputs (omega arith) values w)
 
 pub measure-unpacks : MeasureUnpacks
 measure-unpacks circuit =
@@ -53,31 +52,29 @@ match-unpacks circuit rules rule gate mask =
     unpacks packOne unpackOne matchLimits (matching circuit rules rule gate mask) (match-is-within circuit rules rule gate mask)
     (λ values e w. one-value 4 (omega arith) values w)
 
--- the head that a rewriting leaves in the result table says how many lines it has
+-- the table that a rewriting leaves in the result table has as many lines as it says
 head-lines : (circuit rules sites result work verdicts values : List ℕ) → rewriting circuit rules sites result work verdicts .answer ≡ gives values
-    → 1 + gates (rewriting circuit rules sites result work verdicts .result) + outputs (rewriting circuit rules sites result work verdicts .result) ≡ getD values 0 0
+    → lineCount (decode (rewriting circuit rules sites result work verdicts .buffers .result)) ≡ getD values 0 0
 unfolding doneValues
 head-lines circuit rules sites result work verdicts values e =
-    let d = rewriting circuit rules sites result work verdicts .result in
+    let d = rewriting circuit rules sites result work verdicts .buffers .result in
     let c = finalState circuit rules sites .circuit in
     let left = success-leaves-table circuit rules sites result work verdicts values e .0 in
-    let same : decode d ≡ c = begins-decode c d (begins-over c result d left) in
-    let g : gates d ≡ length (c .gates) = sym (gates-length d) ∙ ap (λ (x : Circuit). length (x .gates)) same in
-    let o : outputs d ≡ length (c .outputs) = sym (outputs-length d) ∙ ap (λ (x : Circuit). length (x .outputs)) same in
-    ap₂ (λ x y. 1 + x + y) g o ∙ ap (λ (x : List ℕ). getD x 0 0) (sym (success-is-safe circuit rules sites result work verdicts values e .3))
+    let (w, r, s, v, safe) = success-is-safe circuit rules sites result work verdicts values e in
+    ap lineCount (decode-over c (valid-encoded c (safe .well-formed) .kinds) result d left) ∙ ap (λ (x : List ℕ). getD x 0 0) (sym v)
 
 pub rewrite-unpacks : RewriteUnpacks
 rewrite-unpacks circuit rules sites result work verdicts =
     let o = rewriting circuit rules sites result work verdicts in
-    unpacks packRewriting (unpackRewriting (o .result)) rewriteLimits (o .answer) (rewrite-is-within circuit rules sites result work verdicts)
-    (λ values e w. rewriting-values (o .result) values (head-lines circuit rules sites result work verdicts values e) w)
+    unpacks packRewriting (unpackRewriting (o .buffers .result)) rewriteLimits (o .answer) (rewrite-is-within circuit rules sites result work verdicts)
+    (λ values e w. rewriting-values (o .buffers .result) values (head-lines circuit rules sites result work verdicts values e) w)
 
 pub translate-unpacks : TranslateUnpacks
 translate-unpacks circuit limit program =
-    unpacks packTranslation unpackTranslation translateLimits (translating circuit limit program .result) (translate-is-within circuit limit program)
+    unpacks packTranslation unpackTranslation translateLimits (translating circuit limit program .answer) (translate-is-within circuit limit program)
     (λ values e w. translation-values values w)
 
 pub listing-unpacks : ListingUnpacks
 listing-unpacks circuit rules sites listing =
-    unpacks packOne unpackOne listingLimits (listingOutcome circuit rules sites listing .result) (listing-is-within circuit rules sites listing)
+    unpacks packOne unpackOne listingLimits (listingOutcome circuit rules sites listing .answer) (listing-is-within circuit rules sites listing)
     (λ values e w. one-value maxListing (omega arith) values w)

@@ -12,41 +12,35 @@ use borrow.Author.Tests.{ltb-true, ltb-false}
 use Rattle.lists.specs.First.{first}
 use Rattle.lists.specs.Records.{allRecords}
 use Rattle.lines.specs.Line.{isLine}
-use Rattle.lines.specs.Text.{isPartial, readText}
-use Rattle.lines.specs.Refusal.{Result, refused, gives, noTable, Outcome, leaving}
-use Rattle.lines.specs.Calls.{over, validation, validating, reading}
-use Rattle.lines.proofs.CallLaws.{Valid, whole-is}
+use Rattle.lines.specs.Text.{readText}
+use Rattle.lines.specs.Refusal.{Result, refused, gives, leaving}
+use Rattle.lines.specs.Calls.{over, lineChecks, validation, validating, reading}
+use Rattle.lines.proofs.CheckLaws.{check-passes, passed, none-found, answer-given, answer-turned}
+use Rattle.lines.proofs.CallLaws.{Valid, valid-passed}
 use Rattle.lines.proofs.TextLaws.{front-valid, front-reads, front-length, front-read, numbers-length}
-use Rattle.napspruce.specs.ListingCall.{refusalNumber, textRefusal}
+use Rattle.napspruce.specs.ListingCall.{textRefusal}
 use Rattle.napspruce.specs.Front.{front, cut}
 
 -- ---- refusals
 
 module _ (text : List ℕ) where
   pub accepted-text : textRefusal text ≡ 0 → Valid 19 isLine text (length text / 19)
-  unfolding textRefusal validation
-  accepted-text h = go (isPartial 19 text) (allRecords isLine 19 (length text / 19) text) refl refl h
-    where
-      go : (p a : Bool) → isPartial 19 text ≡ p → allRecords isLine 19 (length text / 19) text ≡ a
-          → refusalNumber (first p (refused 1 noTable) (first (not a) (refused 3 noTable) (gives (length text / 19 ∷ [])))) ≡ 0
-          → Valid 19 isLine text (length text / 19)
-      go true a e f h = absurd (omega (arith, h))
-      go false false e f h = absurd (omega (arith, h))
-      go false true e f h = record { whole = whole-is 19 text e; not-partial = e; right = f }
+  unfolding textRefusal
+  accepted-text h = valid-passed 19 isLine text (passed (lineChecks 19 isLine text) h)
 
   pub valid-text : (n : ℕ) → Valid 19 isLine text n → textRefusal text ≡ 0
-  unfolding textRefusal validation
+  unfolding textRefusal
   valid-text n v =
       let right : allRecords isLine 19 (length text / 19) text ≡ true = rw (← v .whole .count) (v .right) in
-      rw (v .not-partial, right)
+      none-found (lineChecks 19 isLine text) (check-passes _ 1 _ (v .not-partial), (check-passes _ 3 _ (ap not right), tt))
 
   pub text-valid : (n : ℕ) → validating text ≡ gives (n ∷ []) → 0 ≡ textRefusal text
-  unfolding textRefusal
-  text-valid n e = sym (ap refusalNumber e)
+  unfolding textRefusal validation
+  text-valid n e = sym (none-found (lineChecks 19 isLine text) (answer-given (lineChecks 19 isLine text) _ _ e .0))
 
   pub text-refused : (k t : ℕ) → validating text ≡ refused k t → k ≡ textRefusal text
-  unfolding textRefusal
-  text-refused k t e = sym (ap refusalNumber e)
+  unfolding textRefusal validation
+  text-refused k t e = ap (λ r. r .number) (answer-turned (lineChecks 19 isLine text) _ k t e .0)
 
 -- ---- a text that is cut
 
@@ -106,5 +100,5 @@ module _ (text table : List ℕ) (most count : ℕ) (h : textRefusal text ≡ 0)
       let (a, b, d, s) = front-count in
       record {
         numbers = sym (ap length (sym front-same) ∙ front-length text _ valid count s b);
-        left = ap (λ (o : Outcome). o .buffer) e ∙ front-read text _ valid count s b table (omega arith) ∙ ap (λ x. over x table) front-same;
+        left = ap (λ o. o .buffers) e ∙ front-read text _ valid count s b table (omega arith) ∙ ap (λ x. over x table) front-same;
       }

@@ -8,7 +8,7 @@ use lib.ListN.{length, take, drop, length-append}
 use lib.Seq.{sets, sets-eq, length-take-le, take-at}
 use Rattle.lists.proofs.Stores.{sets-append}
 use Rattle.lines.specs.Text.{isTable, writeTable}
-use Rattle.lines.specs.Refusal.{Result, Outcome, leaving}
+use Rattle.lines.specs.Refusal.{Result, leaving}
 use Rattle.lines.specs.Calls.{over, writing}
 use Rattle.lines.proofs.TextLaws.{valid-table, bytes-length, table-written}
 use Rattle.napspruce.specs.declared.numbers.Summary.{Summary}
@@ -43,7 +43,7 @@ module _ (t₀ t₁ t₂ : List ℕ) (at count end : ℕ) (s : Summary) (verdict
     pub listing-written : (r : Result) (after : List ℕ) → leaving r after ≡ writing (take end t₂) buffer
         → after ≡ over (writeTable (listingLines (take at t₀) s verdicts)) buffer
     listing-written r after q =
-        ap (λ (o : Outcome). o .buffer) q ∙ ap (λ x. writing x buffer .buffer) lines-stored
+        ap (λ o. o .buffers) q ∙ ap (λ x. writing x buffer .buffers) lines-stored
         ∙ table-written (listingLines (take at t₀) s verdicts) buffer ok (omega (arith, listing-length))
 
 -- ---- the line of a refusal
@@ -55,4 +55,4 @@ pub refusal-written : (number table : ℕ) → number ≤ 999999 → table ≤ 9
     → leaving r after ≡ writing (refusalKind ∷ number ∷ table ∷ []) buffer → after ≡ over (writeTable (refusalKind ∷ number ∷ table ∷ [])) buffer
 refusal-written number table h k buffer room r after q =
     let t = refusalKind ∷ number ∷ table ∷ [] in
-    ap (λ (o : Outcome). o .buffer) q ∙ table-written t buffer (valid-table t 1 (refusal-valid number table h k)) (omega (arith, refusal-length number table))
+    ap (λ o. o .buffers) q ∙ table-written t buffer (valid-table t 1 (refusal-valid number table h k)) (omega (arith, refusal-length number table))

@@ -3,14 +3,10 @@
 use Prim.Native.Nat.{ℕ, _+_, _*_}
 use mathlib.Core.List.{List}
 use lib.ListN.{take}
-use Rattle.circuit.specs.Circuit.{maxGates, maxOutputs}
 use Rattle.rules.specs.Rule.{maxRules, maxLefts, maxRights}
 use Rattle.rules.specs.SiteTable.{maxSites}
 
--- as many lines as a table has at most: 2,305, 2,049 and 513
-abbrev pub maxCircuitLines : ℕ
-maxCircuitLines = 1 + maxGates + maxOutputs
-
+-- as many lines as a table of rules and one of sites has at most: 2,049 and 513
 abbrev pub maxRulesLines : ℕ
 maxRulesLines = 1 + maxRules * (1 + maxLefts + maxRights + 1)
 

@@ -1,9 +1,10 @@
 -- How large the numbers are that the calls give.
-use Prim.Native.Nat.{ℕ, _+_, _≤_}
+use Prim.Native.Nat.{ℕ, _≤_}
 use mathlib.Core.List.{List, [], _∷_}
 use Rattle.lines.specs.Refusal.{Result, refused, gives}
-use Rattle.circuit.specs.Circuit.{maxGates, maxOutputs}
+use Rattle.circuit.specs.Circuit.{maxGates, maxOutputs, maxLines, maxDepth}
 use Rattle.rules.specs.SiteTable.{maxSites}
+use Rattle.rules.specs.Verdict.{notSound, noMatch}
 use Rattle.translator.specs.Machine.{maxRegisters}
 use Rattle.translator.specs.Program.{maxInstructions}
 use Rattle.napspruce.specs.ListingCall.{maxListing}
@@ -15,9 +16,16 @@ EachWithin [] (v ∷ vs) = ⊥
 EachWithin (l ∷ ls) [] = ⊥
 EachWithin (l ∷ ls) (v ∷ vs) = (v ≤ l) × EachWithin ls vs
 
--- 01, Refusals: ten numbers, and tables 0 to 3; or a success's numbers within their limits
+-- 01, Refusals: the last number and the last table
+abbrev pub lastRefusal : ℕ
+lastRefusal = 10
+
+abbrev pub lastTable : ℕ
+lastTable = 3
+
+-- a refusal with a number and a table of 01; or a success's numbers within their limits
 abbrev pub Within : (limits : List ℕ) → Result → Type 0
-Within limits (refused number table) = (1 ≤ number) × (number ≤ 10) × (table ≤ 3)
+Within limits (refused number table) = (1 ≤ number) × (number ≤ lastRefusal) × (table ≤ lastTable)
 Within limits (gives values) = EachWithin limits values
 
 -- `evaluate`: outputs
@@ -26,21 +34,21 @@ evaluateLimits = maxOutputs ∷ []
 
 -- `measure`: D and N
 abbrev pub measureLimits : List ℕ
-measureLimits = maxGates ∷ maxGates ∷ []
+measureLimits = maxDepth ∷ maxGates ∷ []
 
 -- `judge` and `match_site`: the verdict
 abbrev pub judgeLimits : List ℕ
-judgeLimits = 2 ∷ []
+judgeLimits = notSound ∷ []
 
 abbrev pub matchLimits : List ℕ
-matchLimits = 4 ∷ []
+matchLimits = noMatch ∷ []
 
 -- `rewrite`: both pairs and kept, and before them the lines
 abbrev pub fieldLimits : List ℕ
-fieldLimits = maxGates ∷ maxGates ∷ maxGates ∷ maxGates ∷ maxSites ∷ []
+fieldLimits = maxDepth ∷ maxGates ∷ maxDepth ∷ maxGates ∷ maxSites ∷ []
 
 abbrev pub rewriteLimits : List ℕ
-rewriteLimits = (1 + maxGates + maxOutputs) ∷ fieldLimits
+rewriteLimits = maxLines ∷ fieldLimits
 
 -- `translate`: instructions, and the need, which is not above the limit that it was asked for
 abbrev pub translateLimits : List ℕ

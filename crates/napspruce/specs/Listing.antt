@@ -2,9 +2,9 @@
 use Prim.Native.Nat.{ℕ, suc}
 use mathlib.Core.List.{List, [], _∷_, _++_}
 use Rattle.lines.specs.Text.{writeTable}
+use Rattle.circuit.specs.Critical.{pairOf}
 use Rattle.circuit.specs.Table.{decode, encode}
 use Rattle.rules.specs.SiteTable.{siteCount}
-use Rattle.rewriting.specs.Pair.{pairOf}
 use Rattle.rewriting.specs.Run.{finalState, allVerdicts}
 use Rattle.napspruce.specs.declared.numbers.Summary.{Summary}
 

@@ -8,11 +8,12 @@ use mathlib.Core.List.{List, [], _∷_, _++_, map}
 use lib.ListN.{take, replicate}
 use Rattle.lines.specs.Text.{readText}
 use Rattle.lines.specs.Refusal.{Result, refused, gives, noTable, Outcome}
+use Rattle.circuit.specs.Circuit.{maxTable}
 use Rattle.circuit.specs.MeasureCall.{measuring}
 use Rattle.rules.specs.SiteTable.{siteCount, maxSites}
 use Rattle.rules.specs.JudgeCall.{judging}
 use Rattle.rules.specs.MatchCall.{matching}
-use Rattle.rewriting.specs.RewriteCall.{Outcome as RewriteOutcome, maxTable, rewriting}
+use Rattle.rewriting.specs.RewriteCall.{Lent, rewriting}
 use Rattle.translator.specs.TranslateCall.{programNumbers, translating}
 use Rattle.napspruce.specs.ListingCall.{maxListing, listingOutcome}
 use Rattle.napspruce.specs.Printed.{printed}
@@ -175,20 +176,20 @@ chainListing =
 abbrev pub buffer : (size : ℕ) → List ℕ
 buffer size = replicate size 0
 
-abbrev pub listingOf : (circuit rules sites : List String) → Outcome
+abbrev pub listingOf : (circuit rules sites : List String) → Outcome (List ℕ)
 listingOf circuit rules sites = listingOutcome (text circuit) (text rules) (text sites) (buffer maxListing)
 
 -- its answer is how many lines the circuit has, old D and N, new D and N, kept
-abbrev pub rewritingOf : (circuit rules sites : List String) → RewriteOutcome
+abbrev pub rewritingOf : (circuit rules sites : List String) → Outcome Lent
 rewritingOf circuit rules sites =
     rewriting (table circuit) (table rules) (table sites) (buffer maxTable) (buffer maxTable) (buffer maxSites)
 
 -- its verdicts, one a site
 abbrev pub verdictsOf : (circuit rules sites : List String) → Result
-verdictsOf circuit rules sites = gives (take (siteCount (table sites)) (rewritingOf circuit rules sites .verdicts))
+verdictsOf circuit rules sites = gives (take (siteCount (table sites)) (rewritingOf circuit rules sites .buffers .verdicts))
 
 abbrev pub translationOf : (circuit : List String) (limit : ℕ) → Result
-translationOf circuit limit = translating (table circuit) limit (buffer programNumbers) .result
+translationOf circuit limit = translating (table circuit) limit (buffer programNumbers) .answer
 
 -- ---- the cases
 
@@ -205,8 +206,8 @@ abbrev pub markedExamples : List Example
 markedExamples =
     -- (a) this rewriting: what the program prints; the service's result, which is the length, and as many bytes of its buffer
     gives (printed (text chain) (text associativity) (text chainSite)) is gives (text chainListing)
-    ∷ listingOf chain associativity chainSite .result is gives (171 ∷ [])
-    ∷ gives (take 171 (listingOf chain associativity chainSite .buffer)) is gives (text chainListing)
+    ∷ listingOf chain associativity chainSite .answer is gives (171 ∷ [])
+    ∷ gives (take 171 (listingOf chain associativity chainSite .buffers)) is gives (text chainListing)
     -- (b) The need is 2 before it and 3 after it, where limit 2 gives 10. Four loads, three operations and an emit are 8 instructions.
     ∷ translationOf chain 2 is gives (8 ∷ 2 ∷ [])
     ∷ translationOf balancedTree 3 is gives (8 ∷ 3 ∷ [])

@@ -6,7 +6,8 @@ use lib.Dec.{eqb}
 use lib.ListN.{length, getD}
 use Rattle.lists.specs.First.{first}
 use Rattle.lines.specs.Refusal.{Result, refused, gives}
-use Rattle.circuit.specs.Table.{gates, outputs}
+use Rattle.circuit.specs.Circuit.{lineCount}
+use Rattle.circuit.specs.Table.{decode}
 
 -- 01, Register program, 16: a refusal
 abbrev pub packRefusal : (number table : ℕ) → ℕ
@@ -66,11 +67,11 @@ packFields oldDepth oldCritical newDepth newCritical kept =
     oldDepth * 2 ^ 48 + oldCritical * 2 ^ 36 + newDepth * 2 ^ 24 + newCritical * 2 ^ 12 + kept
 
 -- `rewrite`: both pairs, and the number of sites kept. How many lines the circuit handed back has, the first of its numbers, follows
--- from the head in the result table.
+-- from the circuit that the result table says.
 abbrev pub packRewriting : List ℕ → ℕ
 packRewriting values = packFields (getD values 1 0) (getD values 2 0) (getD values 3 0) (getD values 4 0) (getD values 5 0)
 
 abbrev pub unpackRewriting : (result : List ℕ) → ℕ → List ℕ
 unpackRewriting result n =
-    (1 + gates result + outputs result)
+    lineCount (decode result)
     ∷ n / 2 ^ 48 ∷ n / 2 ^ 36 % 2 ^ 12 ∷ n / 2 ^ 24 % 2 ^ 12 ∷ n / 2 ^ 12 % 2 ^ 12 ∷ n % 2 ^ 12 ∷ []

@@ -7,6 +7,7 @@ use lib.ListN.{length}
 use Rattle.lines.specs.Text.{isPartial, isText, readText, writeTable}
 use Rattle.lines.specs.Refusal.{refused, gives}
 use Rattle.lines.specs.Calls.{over, reading, writing}
+use Rattle.circuit.specs.Circuit.{maxLines}
 use Rattle.circuit.specs.WellFormed.{WellFormed}
 use Rattle.circuit.specs.EvaluateCall.{evaluating}
 use Rattle.circuit.specs.MeasureCall.{measuring}
@@ -19,7 +20,7 @@ use Rattle.translator.specs.TranslateCall.{translating}
 use Rattle.napspruce.specs.Listing.{listingTable, listingText}
 use Rattle.napspruce.specs.ListingCall.{maxListing, textRefusal, listTables, listTexts, listingOutcome}
 use Rattle.napspruce.specs.Printed.{refusalKind, printed}
-use Rattle.napspruce.specs.Front.{maxCircuitLines, maxRulesLines, maxSitesLines, front, cut}
+use Rattle.napspruce.specs.Front.{maxRulesLines, maxSitesLines, front, cut}
 use Rattle.napspruce.specs.Packing.{pack, unpack, packLines, unpackLines, packOne, unpackOne, packPair, unpackPair, packTranslation, unpackTranslation, packRewriting, unpackRewriting}
 use Rattle.napspruce.specs.Limits.{Within, evaluateLimits, measureLimits, judgeLimits, matchLimits, rewriteLimits, translateLimits, listingLimits}
 
@@ -29,13 +30,13 @@ use Rattle.napspruce.specs.Limits.{Within, evaluateLimits, measureLimits
 abbrev pub FrontIsListedAlike : Type 0
 FrontIsListedAlike =
     (circuit rules sites : List ℕ) → isPartial 3 circuit ≡ false → isPartial 3 rules ≡ false → isPartial 3 sites ≡ false
-    → listTables (front maxCircuitLines circuit) (front maxRulesLines rules) (front maxSitesLines sites) ≡ listTables circuit rules sites
+    → listTables (front maxLines circuit) (front maxRulesLines rules) (front maxSitesLines sites) ≡ listTables circuit rules sites
 
 -- So three texts of any length in which every line is well written may be cut there: they are listed, or refused, as before.
 abbrev pub CutIsListedAlike : Type 0
 CutIsListedAlike =
     (circuit rules sites : List ℕ) (room : ℕ) → textRefusal circuit ≡ 0 → textRefusal rules ≡ 0 → textRefusal sites ≡ 0
-    → listTexts (cut maxCircuitLines circuit) (cut maxRulesLines rules) (cut maxSitesLines sites) room ≡ listTexts circuit rules sites room
+    → listTexts (cut maxLines circuit) (cut maxRulesLines rules) (cut maxSitesLines sites) room ≡ listTexts circuit rules sites room
 
 -- What is listed comes of tables that are not refused, and of a safe run over them.
 abbrev pub ListedIsSafe : Type 0
@@ -52,21 +53,21 @@ ListedIsText =
 -- 01, Refusals, 1: a refusal leaves the buffer as it was.
 abbrev pub RefusalKeepsBuffer : Type 0
 RefusalKeepsBuffer =
-    (circuit rules sites buffer : List ℕ) (number table : ℕ) → listingOutcome circuit rules sites buffer .result ≡ refused number table
-    → listingOutcome circuit rules sites buffer .buffer ≡ buffer
+    (circuit rules sites buffer : List ℕ) (number table : ℕ) → listingOutcome circuit rules sites buffer .answer ≡ refused number table
+    → listingOutcome circuit rules sites buffer .buffers ≡ buffer
 
 -- ---- the program
 
 -- What the program prints is what the call lists in a buffer that has room, or else the line of its refusal.
 abbrev pub ListingIsPrinted : Type 0
 ListingIsPrinted =
-    (circuit rules sites buffer : List ℕ) (n : ℕ) → listingOutcome circuit rules sites buffer .result ≡ gives (n ∷ [])
-    → (n ≡ length (printed circuit rules sites)) × (listingOutcome circuit rules sites buffer .buffer ≡ over (printed circuit rules sites) buffer)
+    (circuit rules sites buffer : List ℕ) (n : ℕ) → listingOutcome circuit rules sites buffer .answer ≡ gives (n ∷ [])
+    → (n ≡ length (printed circuit rules sites)) × (listingOutcome circuit rules sites buffer .buffers ≡ over (printed circuit rules sites) buffer)
 
 abbrev pub RefusalIsPrinted : Type 0
 RefusalIsPrinted =
     (circuit rules sites buffer : List ℕ) (number table : ℕ) → maxListing ≤ length buffer
-    → listingOutcome circuit rules sites buffer .result ≡ refused number table
+    → listingOutcome circuit rules sites buffer .answer ≡ refused number table
     → printed circuit rules sites ≡ writeTable (refusalKind ∷ number ∷ table ∷ [])
 
 -- It has at least one line, and 53,580 bytes at most.
@@ -76,13 +77,13 @@ PrintedFits = (circuit rules sites : List ℕ) → (19 ≤ length (printed circu
 -- ---- the exports: what the calls give is within its limits
 
 abbrev pub ReadIsWithin : Type 0
-ReadIsWithin = (text table : List ℕ) → Within (length text / 19 ∷ []) (reading text table .result)
+ReadIsWithin = (text table : List ℕ) → Within (length text / 19 ∷ []) (reading text table .answer)
 
 abbrev pub WriteIsWithin : Type 0
-WriteIsWithin = (table text : List ℕ) → Within (length table / 3 ∷ []) (writing table text .result)
+WriteIsWithin = (table text : List ℕ) → Within (length table / 3 ∷ []) (writing table text .answer)
 
 abbrev pub EvaluateIsWithin : Type 0
-EvaluateIsWithin = (circuit inputBytes outputBytes : List ℕ) → Within evaluateLimits (evaluating circuit inputBytes outputBytes .result)
+EvaluateIsWithin = (circuit inputBytes outputBytes : List ℕ) → Within evaluateLimits (evaluating circuit inputBytes outputBytes .answer)
 
 abbrev pub MeasureIsWithin : Type 0
 MeasureIsWithin = (circuit : List ℕ) → Within measureLimits (measuring circuit)
@@ -98,25 +99,25 @@ RewriteIsWithin =
     (circuit rules sites result work verdicts : List ℕ) → Within rewriteLimits (rewriting circuit rules sites result work verdicts .answer)
 
 abbrev pub TranslateIsWithin : Type 0
-TranslateIsWithin = (circuit : List ℕ) (limit : ℕ) (program : List ℕ) → Within translateLimits (translating circuit limit program .result)
+TranslateIsWithin = (circuit : List ℕ) (limit : ℕ) (program : List ℕ) → Within translateLimits (translating circuit limit program .answer)
 
 abbrev pub ListingIsWithin : Type 0
-ListingIsWithin = (circuit rules sites listing : List ℕ) → Within listingLimits (listingOutcome circuit rules sites listing .result)
+ListingIsWithin = (circuit rules sites listing : List ℕ) → Within listingLimits (listingOutcome circuit rules sites listing .answer)
 
 -- ---- so its packing loses nothing, and a success meets no refusal: the answer can be taken out of the number
 
 abbrev pub ReadUnpacks : Type 0
 ReadUnpacks =
-    (text table : List ℕ) → unpack (unpackLines 19 text) (pack packLines (reading text table .result)) ≡ reading text table .result
+    (text table : List ℕ) → unpack (unpackLines 19 text) (pack packLines (reading text table .answer)) ≡ reading text table .answer
 
 abbrev pub WriteUnpacks : Type 0
 WriteUnpacks =
-    (table text : List ℕ) → unpack (unpackLines 3 table) (pack packLines (writing table text .result)) ≡ writing table text .result
+    (table text : List ℕ) → unpack (unpackLines 3 table) (pack packLines (writing table text .answer)) ≡ writing table text .answer
 
 abbrev pub EvaluateUnpacks : Type 0
 EvaluateUnpacks =
     (circuit inputBytes outputBytes : List ℕ)
-    → unpack unpackOne (pack packOne (evaluating circuit inputBytes outputBytes .result)) ≡ evaluating circuit inputBytes outputBytes .result
+    → unpack unpackOne (pack packOne (evaluating circuit inputBytes outputBytes .answer)) ≡ evaluating circuit inputBytes outputBytes .answer
 
 abbrev pub MeasureUnpacks : Type 0
 MeasureUnpacks = (circuit : List ℕ) → unpack unpackPair (pack packPair (measuring circuit)) ≡ measuring circuit
@@ -133,16 +134,16 @@ MatchUnpacks =
 abbrev pub RewriteUnpacks : Type 0
 RewriteUnpacks =
     (circuit rules sites result work verdicts : List ℕ)
-    → unpack (unpackRewriting (rewriting circuit rules sites result work verdicts .result))
+    → unpack (unpackRewriting (rewriting circuit rules sites result work verdicts .buffers .result))
     (pack packRewriting (rewriting circuit rules sites result work verdicts .answer))
     ≡ rewriting circuit rules sites result work verdicts .answer
 
 abbrev pub TranslateUnpacks : Type 0
 TranslateUnpacks =
     (circuit : List ℕ) (limit : ℕ) (program : List ℕ)
-    → unpack unpackTranslation (pack packTranslation (translating circuit limit program .result)) ≡ translating circuit limit program .result
+    → unpack unpackTranslation (pack packTranslation (translating circuit limit program .answer)) ≡ translating circuit limit program .answer
 
 abbrev pub ListingUnpacks : Type 0
 ListingUnpacks =
     (circuit rules sites listing : List ℕ)
-    → unpack unpackOne (pack packOne (listingOutcome circuit rules sites listing .result)) ≡ listingOutcome circuit rules sites listing .result
+    → unpack unpackOne (pack packOne (listingOutcome circuit rules sites listing .answer)) ≡ listingOutcome circuit rules sites listing .answer

@@ -49,7 +49,8 @@ pub extern "C" fn napspruce_write(table: &[u32], text: &mut [u8]) -> u64
 // The bits that a circuit gives for input bytes. Gives the number of outputs.
 #[no_mangle]
 pub extern "C" fn napspruce_evaluate(circuit: &[u32], inputs: &[u8], outputs: &mut [u8]) -> u64
-    ensures { λ r. ⌜ packedLeaving r (now (outputs .exit)) ≡ packOutcome packOne (evaluating (now (circuit .entry)) (now (inputs .entry)) (now (outputs .entry))) ⌝ }
+    ensures { λ r. ⌜ packedLeaving r (now (outputs .exit)) ≡ packOutcome packOne
+        (evaluating (now (circuit .entry)) (now (inputs .entry)) (now (outputs .entry))) ⌝ }
 {
     match circuit::evaluate(circuit, inputs, outputs) {
         Evaluated::Outputs(count) => count as u64,
@@ -106,7 +107,9 @@ pub extern "C" fn napspruce_rewrite(
     work: &mut [u32],
     verdicts: &mut [u8],
 ) -> u64
-    ensures { λ r. ⌜ rewritingLeaving r (now (result .exit)) (now (work .exit)) (now (verdicts .exit)) ≡ packRewritingOutcome (rewritingOf (now (circuit .entry)) (now (rules .entry)) (now (sites .entry)) (now (result .entry)) (now (work .entry)) (now (verdicts .entry))) ⌝ }
+    ensures { λ r. ⌜ rewritingLeaving r (now (result .exit)) (now (work .exit)) (now (verdicts .exit)) ≡ packRewritingOutcome
+        (rewritingOf (now (circuit .entry)) (now (rules .entry)) (now (sites .entry))
+        (now (result .entry)) (now (work .entry)) (now (verdicts .entry))) ⌝ }
 {
     match rewriting::rewrite(circuit, rules, sites, result, work, verdicts) {
         Rewritten::Done {
@@ -150,7 +153,8 @@ pub extern "C" fn napspruce_listing(
     sites: &[u8],
     listing: &mut [u8],
 ) -> u64
-    ensures { λ r. ⌜ packedLeaving r (now (listing .exit)) ≡ packOutcome packOne (listingOutcome (now (circuit .entry)) (now (rules .entry)) (now (sites .entry)) (now (listing .entry))) ⌝ }
+    ensures { λ r. ⌜ packedLeaving r (now (listing .exit)) ≡ packOutcome packOne
+        (listingOutcome (now (circuit .entry)) (now (rules .entry)) (now (sites .entry)) (now (listing .entry))) ⌝ }
 {
     match list(circuit, rules, sites, listing) {
         Listed::Length(length) => length as u64,

@@ -5,20 +5,23 @@ ghost use Prim.Native.Nat.{_+_, _*_, _≤_};
 ghost use lib.ListN.{length, take};
 ghost use Rattle.lines.specs.Calls.{over};
 ghost use Rattle.lines.specs.Refusal.{leaving};
+ghost use Rattle.lines.specs.Checks.{firstFound};
 ghost use Rattle.lines.specs.Text.{isPartial, isTable, readText, writeTable};
 ghost use Rattle.rules.specs.SiteTable.{maxSites};
 ghost use Rattle.napspruce.specs.Listing.{listingLines};
-ghost use Rattle.napspruce.specs.ListingCall.{paperValues as listedValues, maxListing, textRefusal, listTables, putting, listingOutcome};
+ghost use Rattle.napspruce.specs.ListingCall.{paperValues as listedValues, maxListing, textRefusal, textChecks, tablesOutcome, listingOutcome};
 use crate::numbers::Summary;
 use crate::numbers::write_summary;
 use crate::numbers::write_verdicts;
 use crate::texts::read_front;
 use crate::texts::text_refusal;
 use circuit::CIRCUIT_TABLE;
-use circuit::NO_TABLE;
 use circuit::checked::DepthPair;
+use circuit::checked::MAX_LINES;
 use circuit::checked::MAX_TABLE;
+use lines::NO_TABLE;
 use lines::Refusal;
+use lines::refuse;
 use rewriting::Rewritten;
 use rewriting::rewrite;
 use rules::RULES_TABLE;
@@ -29,14 +32,14 @@ use rules::checked::MAX_RULES;
 use rules::checked::MAX_SITES;
 
 // As many lines as are read of a text: one more than its table can have.
-const CIRCUIT_LINES: usize = MAX_TABLE / 3 + 1;
+const CIRCUIT_LINES: usize = MAX_LINES + 1;
 
 const RULES_LINES: usize = 1 + (MAX_RULES * (1 + MAX_LEFTS + MAX_RIGHTS + 1)) as usize + 1;
 
 const SITES_LINES: usize = 1 + MAX_SITES as usize + 1;
 
 // As many lines, numbers and bytes as a listing has at most.
-const LISTING_LINES: usize = MAX_TABLE / 3 + 3 + MAX_SITES as usize;
+const LISTING_LINES: usize = MAX_LINES + 3 + MAX_SITES as usize;
 
 const LISTING_NUMBERS: usize = 3 * LISTING_LINES;
 
@@ -48,15 +51,6 @@ const MAX_VERDICTS: usize = MAX_SITES as usize;
 pub enum Listed {
     Length(usize),
     Refused(Refusal),
-}
-
-fn refused(number: u32, table: u32) -> Listed
-    ensures { λ r. ⌜ r ≡ Listed.Refused (record { number = number; table = table }) ⌝ }
-{
-    Listed::Refused(Refusal {
-        number: number,
-        table: table,
-    })
 }
 
 // Writes the listing whose circuit's lines the table begins with. The result is how many bytes it has.
@@ -73,7 +67,8 @@ fn write_listing(
     requires { ⌜ isTable (listingLines (take (3 * lines) (now table)) s (take (s .sites) (now verdicts))) ≡ true ⌝ }
     requires { ⌜ 19 * (lines + 3 + s .sites) ≤ length (now listing) ⌝ }
     ensures { λ r. ⌜ r ≡ length (writeTable (listingLines (take (3 * lines) (now (table .entry))) s (take (s .sites) (now (verdicts .entry))))) ⌝ }
-    ensures { λ _. ⌜ now (listing .exit) ≡ over (writeTable (listingLines (take (3 * lines) (now (table .entry))) s (take (s .sites) (now (verdicts .entry))))) (now (listing .entry)) ⌝ }
+    ensures { λ _. ⌜ now (listing .exit) ≡ over
+        (writeTable (listingLines (take (3 * lines) (now (table .entry))) s (take (s .sites) (now (verdicts .entry))))) (now (listing .entry)) ⌝ }
 {
     let at = 3 * lines;
     let count = s.sites as usize;
@@ -90,7 +85,8 @@ fn list_tables(circuit: &[u32], rules: &[u32], sites: &[u32], listing: &mut [u8]
     requires { ⌜ isPartial 3 (now rules) ≡ false ⌝ }
     requires { ⌜ isPartial 3 (now sites) ≡ false ⌝ }
     requires { ⌜ maxListing ≤ length (now listing) ⌝ }
-    ensures { λ r. ⌜ leaving (listedValues r) (now (listing .exit)) ≡ putting (listTables (now (circuit .entry)) (now (rules .entry)) (now (sites .entry))) (now (listing .entry)) ⌝ }
+    ensures { λ r. ⌜ leaving (listedValues r) (now (listing .exit)) ≡
+        tablesOutcome (now (circuit .entry)) (now (rules .entry)) (now (sites .entry)) (now (listing .entry)) ⌝ }
 {
     let mut table = [0u32; LISTING_NUMBERS];
     let mut work = [0u32; MAX_TABLE];
@@ -129,7 +125,8 @@ fn list_accepted(circuit: &[u8], rules: &[u8], sites: &[u8], listing: &mut [u8])
     requires { ⌜ textRefusal (now rules) ≡ 0 ⌝ }
     requires { ⌜ textRefusal (now sites) ≡ 0 ⌝ }
     requires { ⌜ maxListing ≤ length (now listing) ⌝ }
-    ensures { λ r. ⌜ leaving (listedValues r) (now (listing .exit)) ≡ putting (listTables (readText (now (circuit .entry))) (readText (now (rules .entry))) (readText (now (sites .entry)))) (now (listing .entry)) ⌝ }
+    ensures { λ r. ⌜ leaving (listedValues r) (now (listing .exit)) ≡
+        tablesOutcome (readText (now (circuit .entry))) (readText (now (rules .entry))) (readText (now (sites .entry))) (now (listing .entry)) ⌝ }
 {
     let mut circuit_table = [0u32; 3 * CIRCUIT_LINES];
     let mut rules_table = [0u32; 3 * RULES_LINES];
@@ -145,24 +142,36 @@ fn list_accepted(circuit: &[u8], rules: &[u8], sites: &[u8], listing: &mut [u8])
     )
 }
 
-// The listing over the front of the buffer.
-pub fn list(circuit: &[u8], rules: &[u8], sites: &[u8], listing: &mut [u8]) -> Listed
-    ensures { λ r. ⌜ leaving (listedValues r) (now (listing .exit)) ≡ listingOutcome (now (circuit .entry)) (now (rules .entry)) (now (sites .entry)) (now (listing .entry)) ⌝ }
+// The refusal of three texts and a buffer to list them in, before the texts are read, if there is one.
+fn list_refusal(circuit: &[u8], rules: &[u8], sites: &[u8], listing: &[u8]) -> Refusal
+    ensures { λ r. ⌜ r ≡ firstFound (textChecks (now (circuit .entry)) (now (rules .entry)) (now (sites .entry)) (length (now (listing .entry)))) ⌝ }
 {
     let of_circuit = text_refusal(circuit);
     if of_circuit != 0 {
-        return refused(of_circuit, CIRCUIT_TABLE);
+        return refuse(of_circuit, CIRCUIT_TABLE);
     }
     let of_rules = text_refusal(rules);
     if of_rules != 0 {
-        return refused(of_rules, RULES_TABLE);
+        return refuse(of_rules, RULES_TABLE);
     }
     let of_sites = text_refusal(sites);
     if of_sites != 0 {
-        return refused(of_sites, SITES_TABLE);
+        return refuse(of_sites, SITES_TABLE);
     }
     if listing.len() < MAX_LISTING {
-        return refused(2, NO_TABLE);
+        return refuse(2, NO_TABLE);
+    }
+    refuse(0, NO_TABLE)
+}
+
+// The listing over the front of the buffer.
+pub fn list(circuit: &[u8], rules: &[u8], sites: &[u8], listing: &mut [u8]) -> Listed
+    ensures { λ r. ⌜ leaving (listedValues r) (now (listing .exit)) ≡
+        listingOutcome (now (circuit .entry)) (now (rules .entry)) (now (sites .entry)) (now (listing .entry)) ⌝ }
+{
+    let refusal = list_refusal(circuit, rules, sites, listing);
+    if refusal.number != 0 {
+        return Listed::Refused(refusal);
     }
     list_accepted(circuit, rules, sites, listing)
 }

@@ -6,7 +6,7 @@ ghost use lib.Seq.{sets};
 ghost use Rattle.rules.specs.SiteTable.{maxSites};
 ghost use Rattle.napspruce.specs.Listing.{summary, verdictLines};
 use circuit::checked::DepthPair;
-use circuit::checked::write_line;
+use lines::checked::write_row;
 
 // What these lines begin with.
 const OLD_PAIR: u32 = 5;
@@ -30,9 +30,9 @@ pub fn write_summary(table: &mut [u32], at: usize, s: Summary)
     requires { ⌜ at + 9 ≤ length (now table) ⌝ }
     ensures { λ _. ⌜ now (table .exit) ≡ sets (now (table .entry)) at (summary s) ⌝ }
 {
-    write_line(table, at, OLD_PAIR, s.old.depth, s.old.critical);
-    write_line(table, at + 3, NEW_PAIR, s.new.depth, s.new.critical);
-    write_line(table, at + 6, COUNTS, s.sites, s.kept);
+    write_row(table, at, OLD_PAIR, s.old.depth, s.old.critical);
+    write_row(table, at + 3, NEW_PAIR, s.new.depth, s.new.critical);
+    write_row(table, at + 6, COUNTS, s.sites, s.kept);
 }
 
 // A function of its own, so that reading a byte asks for its place alone.
@@ -52,6 +52,6 @@ pub fn write_verdicts(table: &mut [u32], at: usize, verdicts: &[u8], count: usiz
     for i in 0..count {
         let verdict = verdict_number(verdicts[i]);
         let number = i as u32 + 1;
-        write_line(table, at + 3 * i, VERDICT, number, verdict);
+        write_row(table, at + 3 * i, VERDICT, number, verdict);
     }
 }

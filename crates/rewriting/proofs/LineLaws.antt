@@ -4,32 +4,30 @@ use mathlib.Core.Bool.{true, false}
 use mathlib.Core.List.{List, [], _∷_, _++_, map, append-assoc}
 use Prim.Native.Nat.{ℕ, suc, _+_, _*_, _-_, _≤_, _<_}
 use native.Mathlib.Omega.{arith}
-use lib.ListN.{length, take, drop, length-map, length-drop, drop-of-length-le}
+use lib.ListN.{length, take, drop, getD, length-map, length-drop, drop-of-length-le}
 use lib.Seq.{sets, slice, take-all, drop-cons, drop-drop, getD-take, length-take-le}
 use borrow.Author.Tests.{ltb-false}
 use Rattle.lists.proofs.Maps.{map-drop}
 use Rattle.lists.proofs.Stores.{sets-append, sets-behind}
 use Rattle.lists.proofs.Appended.{Appended, appended-none, appended-more, appended-all}
 use Rattle.lines.specs.Calls.{over}
-use Rattle.circuit.specs.Circuit.{Gate, firstGate, noGate, maxGates}
-use Rattle.circuit.specs.Table.{inputs, gates, outputs, gatesFrom, closingsFrom, lineAt, linesOf, gateLines, closingLine, decode, encodeLines, encode}
+use Rattle.circuit.specs.Circuit.{Gate, firstGate, noGate, maxGates, maxTable}
+use Rattle.circuit.specs.Table.{inputs, gates, outputs, gatesFrom, linesOf, gateLines, closingLine, decode, encodeLines, encode}
 use Rattle.circuit.specs.Each.{allGates}
 use Rattle.circuit.specs.Path.{isGate}
 use Rattle.circuit.specs.Refusal.{operandsBelow}
 use Rattle.circuit.specs.Valuation.{Ordered}
 use Rattle.circuit.specs.Trim.{renameGate}
 use Rattle.circuit.specs.WellFormed.{Sized, WellFormed}
-use Rattle.circuit.proofs.TableLaws.{lines-length, output-step, gates-length, outputs-length}
+use Rattle.circuit.proofs.TableLaws.{lines-length, output-next, gates-length, outputs-length}
 use Rattle.circuit.proofs.EncodingLaws.{encode-cons, encode-append, encode-length, encode-gates, encode-outputs, encode-long}
 use Rattle.circuit.proofs.ValidLaws.{valid-decode}
 use Rattle.rules.specs.Rule.{Rule, maxHoles, maxRights}
 use Rattle.rules.specs.RuleTable.{holesAt, rightsAt, rightFrom, ruleAt}
 use Rattle.rules.specs.WellFormed.{WellFormedRule}
-use Rattle.rules.proofs.LineLaws.{line-of}
 use Rattle.rules.proofs.RefusalLaws.{right-references-ok}
 use Rattle.rules.proofs.SubstitutionLaws.{gate-from, gate-to}
 use Rattle.rewriting.specs.Replacement.{instanceOf, renumber, rightRenaming, renaming, gatesBefore, gatesBehind, replace}
-use Rattle.rewriting.specs.RewriteCall.{maxTable}
 use Rattle.rewriting.specs.Verdict.{isTooLarge}
 use Rattle.rewriting.proofs.SpliceLaws.{each-left}
 use Rattle.rewriting.proofs.ReplacementLaws.{renumber-low, before-length, behind-length, cut, replace-length}
@@ -63,20 +61,20 @@ module _ (t : List ℕ) (from to : ℕ) (room : to ≤ gates t) where
   part-length = length-drop from (take to (gateLines t)) ∙ omega (arith, length-take-le to (gateLines t) (omega (arith, gates-length t)))
 
   pub part-step : (i : ℕ) → from + i < to
-      → drop i (slice from to (gateLines t)) ≡ lineAt t (gatesFrom t + 3 * (from + i)) ∷ drop (i + 1) (slice from to (gateLines t))
+      → drop i (slice from to (gateLines t)) ≡ getD (decode t .gates) (from + i) noGate ∷ drop (i + 1) (slice from to (gateLines t))
   part-step i h =
       let gs = gateLines t in
       let e : suc (from + i) ≡ from + (i + 1) = omega arith in
       drop-drop i from (take to gs)
       ∙ drop-cons (take to gs) (from + i) noGate (omega (arith, length-take-le to gs (omega (arith, gates-length t))))
-      ∙ ap₂ _∷_ (getD-take to gs (from + i) noGate h ∙ line-of (gates t) (gatesFrom t) t (from + i) (omega arith))
+      ∙ ap₂ _∷_ (getD-take to gs (from + i) noGate h)
       (ap (λ j. drop j (take to gs)) e ∙ sym (drop-drop (i + 1) from (take to gs)))
 
 pub renamed-output-step : (ρ : ℕ → ℕ) (t : List ℕ) (i : ℕ) → i < outputs t
-    → drop i (map ρ (decode t .outputs)) ≡ ρ (lineAt t (closingsFrom t + 3 * i) .left) ∷ drop (i + 1) (map ρ (decode t .outputs))
+    → drop i (map ρ (decode t .outputs)) ≡ ρ (getD (decode t .outputs) i 0) ∷ drop (i + 1) (map ρ (decode t .outputs))
 renamed-output-step ρ t i h =
     let os = decode t .outputs in
-    map-drop ρ i os ∙ ap (map ρ) (output-step t i h) ∙ ap (λ l. ρ (lineAt t (closingsFrom t + 3 * i) .left) ∷ l) (sym (map-drop ρ (i + 1) os))
+    map-drop ρ i os ∙ ap (map ρ) (output-next t i h) ∙ ap (λ l. ρ (getD os i 0) ∷ l) (sym (map-drop ρ (i + 1) os))
 
 -- ---- the lines of the replaced circuit's table
 
@@ -166,21 +164,21 @@ module _ (t : List ℕ) (u : Rule) (gate : ℕ) (b : List ℕ) (g : isGate (deco
       ∙ ap (λ x. sets x 3 (beforeLines ++ (rightLines ++ (behindLines ++ closings)))) e₁
       ∙ ap (sets d 0) (sym replace-lines)
 
--- ---- what replacement in table t does, where `first`, `count`, `from` and `closing` were read of the right side of the rule at number p
+-- ---- what replacement in table t does, where `base`, `count`, `from` and `closing` were read of the right side of the rule at number p
 
 -- the gate is one, and the replaced circuit is within the limits
-pub record Fits (t : List ℕ) (gate first count : ℕ) : Type 0 where
+pub record Fits (t : List ℕ) (gate base count : ℕ) : Type 0 where
   pub sized : Sized t
   pub gate-lowest : firstGate (inputs t) ≤ gate
   pub gate-limit : gate < firstGate (inputs t) + gates t
   pub gates-limit : gates t + count ≤ maxGates + 1
-  pub first-limit : first ≤ firstGate maxHoles
+  pub base-limit : base ≤ firstGate maxHoles
   pub count-limit : count ≤ maxRights
 
 module _ (t : List ℕ) (w : WellFormed t) (gate : ℕ) (g : isGate (decode t) gate ≡ true)
     (rules : List ℕ) (p : ℕ) (small : isTooLarge (decode t) (ruleAt rules p) ≡ false)
-    (first count : ℕ) (e : first ≡ firstGate (holesAt rules p)) (f : count ≡ rightsAt rules p) where
-  pub replace-fits : WellFormedRule rules p → Fits t gate first count
+    (base count : ℕ) (e : base ≡ firstGate (holesAt rules p)) (f : count ≡ rightsAt rules p) where
+  pub replace-fits : WellFormedRule rules p → Fits t gate base count
   replace-fits r =
       record {
         sized = w .sized;
@@ -192,18 +190,18 @@ module _ (t : List ℕ) (w : WellFormed t) (gate : ℕ) (g : isGate (decode t) g
           gates-length t,
           lines-length (rightsAt rules p) (drop (rightFrom rules p) rules),
         );
-        first-limit = omega (arith, r .sized);
+        base-limit = omega (arith, r .sized);
         count-limit = omega (arith, r .sized);
       }
 
-  pub right-ordered : WellFormedRule rules p → (from : ℕ) → from ≡ rightFrom rules p → allGates operandsBelow first (linesOf count (drop from rules)) ≡ true
+  pub right-ordered : WellFormedRule rules p → (from : ℕ) → from ≡ rightFrom rules p → allGates operandsBelow base (linesOf count (drop from rules)) ≡ true
   right-ordered r from h =
       ap (λ i. allGates operandsBelow i (linesOf count (drop from rules))) e
       ∙ ap₂ (λ i j. allGates operandsBelow (firstGate (holesAt rules p)) (linesOf i (drop j rules))) f h ∙ right-references-ok rules p r
 
   module _ (b : List ℕ) where
-    pub replace-stores : (from closing s : ℕ) → from ≡ rightFrom rules p → closing ≡ ruleAt rules p .closing → s ≡ instanceOf first gate b closing
-        → FiveStores t gate (renumber gate s count) (map (renameGate (instanceOf first gate b)) (linesOf count (drop from rules))) count
+    pub replace-stores : (from closing s : ℕ) → from ≡ rightFrom rules p → closing ≡ ruleAt rules p .closing → s ≡ instanceOf base gate b closing
+        → FiveStores t gate (renumber gate s count) (map (renameGate (instanceOf base gate b)) (linesOf count (drop from rules))) count
         (encode (replace (decode t) (ruleAt rules p) gate b))
     replace-stores from closing s h k x =
         let u = ruleAt rules p in
@@ -212,15 +210,40 @@ module _ (t : List ℕ) (w : WellFormed t) (gate : ℕ) (g : isGate (decode t) g
         let m : count ≡ length (u .rights) = f ∙ sym (lines-length (rightsAt rules p) (drop (rightFrom rules p) rules)) in
         rw (y, z, m, e) (stores t u gate b g w)
 
-    -- there is room for them
-    pub replace-over : (d : List ℕ) → maxTable ≤ length d
-        → sets d 0 (encode (replace (decode t) (ruleAt rules p) gate b)) ≡ over (encode (replace (decode t) (ruleAt rules p) gate b)) d
+    -- where the last of them ends, the replaced table ends, and there is room for it
+    pub replace-end : (n q r s : ℕ) → n ≡ gatesFrom t → q ≡ n + 3 * (gate - firstGate (inputs t) - 0) → r ≡ q + 3 * count
+        → s ≡ r + 3 * (gates t - (gate - firstGate (inputs t) + 1)) → s + 3 * outputs t ≡ length (encode (replace (decode t) (ruleAt rules p) gate b))
     unfolding replace
-    replace-over d room =
+    replace-end n q r s hn hq hr hs =
         let u = ruleAt rules p in
         let c′ = replace (decode t) u gate b in
-        sets-behind [] (encode c′) d 0 refl
-        (omega (
+        let lo = gate-from (decode t) gate g in
+        let hi = gate-to (decode t) gate g in
+        omega (
+          arith,
+          hn,
+          hq,
+          hr,
+          hs,
+          lo,
+          hi,
+          f,
+          encode-long c′,
+          encode-gates c′,
+          encode-outputs c′,
+          replace-length (decode t) gate lo hi u b,
+          lines-length (rightsAt rules p) (drop (rightFrom rules p) rules),
+          gates-length t,
+          length-map (decode t .outputs) (renaming u gate b),
+          outputs-length t,
+        )
+
+    pub replace-room : length (encode (replace (decode t) (ruleAt rules p) gate b)) ≤ maxTable
+    unfolding replace
+    replace-room =
+        let u = ruleAt rules p in
+        let c′ = replace (decode t) u gate b in
+        omega (
           arith,
           encode-long c′,
           encode-gates c′,
@@ -230,4 +253,8 @@ module _ (t : List ℕ) (w : WellFormed t) (gate : ℕ) (g : isGate (decode t) g
           length-map (decode t .outputs) (renaming u gate b),
           outputs-length t,
           w .sized,
-        ))
+        )
+
+    pub replace-over : (d : List ℕ) → maxTable ≤ length d
+        → sets d 0 (encode (replace (decode t) (ruleAt rules p) gate b)) ≡ over (encode (replace (decode t) (ruleAt rules p) gate b)) d
+    replace-over d room = sets-behind [] (encode (replace (decode t) (ruleAt rules p) gate b)) d 0 refl (omega (arith, room, replace-room))

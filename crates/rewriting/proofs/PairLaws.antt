@@ -6,12 +6,12 @@ use native.Mathlib.Omega.{arith}
 use lib.Dec.{eqb, ltb}
 use borrow.Author.Tests.{eqb-true, ltb-true}
 use Rattle.circuit.specs.Circuit.{Circuit, maxGates}
-use Rattle.circuit.specs.Critical.{criticalCount}
+use Rattle.circuit.specs.Critical.{criticalCount, pairOf}
 use Rattle.circuit.specs.Trim.{trim}
 use Rattle.circuit.proofs.ValidLaws.{Valid, Limited}
 use Rattle.circuit.proofs.BoundLaws.{critical-count-le}
 use Rattle.circuit.proofs.TrimLaws.{trim-circuit-depth, trim-critical-count}
-use Rattle.rewriting.specs.Pair.{pairOf, isLower, weight}
+use Rattle.rewriting.specs.Pair.{isLower, weight}
 use Rattle.rewriting.specs.Theorems.{LowerWeighsLess}
 
 pub lower-weighs-less : LowerWeighsLess

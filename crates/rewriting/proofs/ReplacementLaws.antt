@@ -19,11 +19,12 @@ use Rattle.circuit.specs.Path.{isGate}
 use Rattle.circuit.specs.Trim.{renameGate}
 use Rattle.circuit.proofs.ValidLaws.{Valid, Limited}
 use Rattle.circuit.proofs.TrimLaws.{map-among, among-map}
-use Rattle.rules.specs.Rule.{Rule, root}
+use Rattle.rules.specs.Rule.{Rule, hole, root}
 use Rattle.rules.specs.WellFormed.{ValidRule}
 use Rattle.rules.specs.Soundness.{startHoles, isSound}
 use Rattle.rules.specs.Match.{boundTo}
 use Rattle.rules.specs.Substitution.{Substitution}
+use Rattle.rules.proofs.MatchLaws.{some-coded}
 use Rattle.rules.proofs.SubstitutionLaws.{gate-from, gate-to}
 use Rattle.rules.proofs.ValueLaws.{hole-bits, matched-gate-has-value}
 use Rattle.rewriting.specs.Replacement.{instanceOf, renumber, rightRenaming, renaming, gatesBefore, gatesBehind, replace, BoundBelow}
@@ -31,14 +32,14 @@ use Rattle.rewriting.proofs.SpliceLaws.{each-left, each-rename, Splice,
 
 -- ---- the two renamings
 
-module _ (start gate : ℕ) (b : List ℕ) where
-  pub instance-low : (r : ℕ) → r < start → instanceOf start gate b r ≡ boundTo b r
+module _ (base gate : ℕ) (b : List ℕ) where
+  pub instance-low : (r : ℕ) → r < base → instanceOf base gate b r ≡ boundTo b r
   unfolding instanceOf
-  instance-low r h = rw (lt-ltb r start h)
+  instance-low r h = rw (lt-ltb r base h)
 
-  pub instance-high : (r : ℕ) → start ≤ r → instanceOf start gate b r ≡ gate + (r - start)
+  pub instance-high : (r : ℕ) → base ≤ r → instanceOf base gate b r ≡ gate + (r - base)
   unfolding instanceOf
-  instance-high r h = rw (le-ltb r start h)
+  instance-high r h = rw (le-ltb r base h)
 
 module _ (gate closing count : ℕ) where
   pub renumber-low : (v : ℕ) → v < gate → renumber gate closing count v ≡ v
@@ -94,7 +95,7 @@ module _ (c : Circuit) (ok : Valid c) (u : Rule) (w : ValidRule u) (gate mask : 
   matched-gate =
       let k = length (u .lefts) - 1 in
       let e : firstGate (u .holes) + k ≡ root u = omega (arith, w .lefts-some) in
-      let q : boundTo b (firstGate (u .holes) + k) ≡ gate = omega (arith, s .root-bound, ap (λ r. getD b r 0) e) in
+      let q : boundTo b (firstGate (u .holes) + k) ≡ gate = omega (arith, some-coded b (root u) gate (s .root-bound), ap (λ r. getD b r 0) e) in
       rw q at (s .gates-bound k (omega (arith, w .lefts-some)) .is-gate)
 
   lo : firstGate (c .inputs) ≤ gate
@@ -111,9 +112,12 @@ module _ (c : Circuit) (ok : Valid c) (u : Rule) (w : ValidRule u) (gate mask : 
   bound-below r h = (bound r h, s .below-gate r h)
     where
       bound : (r : ℕ) → r < firstGate (u .holes) → 0 < getD b r 0
-      bound zero h = omega (arith, s .zero-bound)
-      bound (suc zero) h = omega (arith, s .one-bound)
-      bound (suc (suc j)) h = let e : j + 2 ≡ suc (suc j) = omega arith in rw e at (s .holes-bound j (omega arith))
+      bound zero h = omega (arith, some-coded b 0 0 (s .zero-bound))
+      bound (suc zero) h = omega (arith, some-coded b 1 1 (s .one-bound))
+      bound (suc (suc j)) h =
+          let e : hole j ≡ suc (suc j) = omega arith in
+          let k : 0 < getD b (hole j) 0 = omega (arith, some-coded b (hole j) (boundTo b (hole j)) (s .holes-bound j (omega arith))) in
+          rw e at k
 
   -- a right side's references come to stand below its end
   pub instance-below : (r : ℕ) → r < firstGate (u .holes) + length (u .rights) → rightRenaming u gate b r < gate + length (u .rights)
@@ -179,7 +183,7 @@ module _ (c : Circuit) (ok : Valid c) (u : Rule) (w : ValidRule u) (gate mask : 
     value r = getD (bits c bytes) r 0
 
     abbrev holeBits : List ℕ
-    holeBits = startHoles (u .holes) (λ j. value (boundTo b (j + 2)))
+    holeBits = startHoles (u .holes) (λ j. value (boundTo b (hole j)))
 
     inputs-length : length (startBits bytes) ≡ firstGate (c .inputs)
     inputs-length = omega (arith, length-map bytes bitOf)
@@ -194,7 +198,7 @@ module _ (c : Circuit) (ok : Valid c) (u : Rule) (w : ValidRule u) (gate mask : 
     unfolding replace bits
     replace-value v h =
         let right-value = splice-rights splice bitOp 0 (startBits bytes) inputs-length holeBits
-        (omega (arith, below-length (λ j. value (boundTo b (j + 2))) (u .holes)))
+        (omega (arith, below-length (λ j. value (boundTo b (hole j))) (u .holes)))
         (λ r l. cut-bits (rightRenaming u gate b r) ∙ ap value (instance-low (firstGate (u .holes)) gate b r l) ∙ hole-bits c (ok .ordered) u w gate mask b s bytes e r l)
         (u .closing) (w .closing-below) in
         let same = matched-gate-has-value c (ok .ordered) u w gate mask b s bytes e .1 sound in

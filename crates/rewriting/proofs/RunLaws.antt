@@ -10,6 +10,7 @@ use lib.ListN.{length, length-map}
 use borrow.Author.Tests.{eqb-true}
 use Rattle.lists.specs.First.{first}
 use Rattle.lists.specs.Below.{mapBelow}
+use Rattle.circuit.specs.Critical.{pairOf}
 use Rattle.circuit.specs.Circuit.{Circuit}
 use Rattle.circuit.specs.Table.{encode}
 use Rattle.circuit.specs.WellFormed.{WellFormed}
@@ -20,7 +21,7 @@ use Rattle.circuit.proofs.TrimLaws.{trim-valid, trim-limited, trim-evaluate, tr
 use Rattle.rules.specs.SiteTable.{Site, siteAt}
 use Rattle.rules.specs.WellFormed.{WellFormedRules}
 use Rattle.rewriting.specs.Replacement.{replace}
-use Rattle.rewriting.specs.Pair.{pairOf, weight}
+use Rattle.rewriting.specs.Pair.{weight}
 use Rattle.rewriting.specs.Verdict.{replaced, rewritten, verdictOf}
 use Rattle.rewriting.specs.Run.{State, keeping, step, startState, afterSites, verdictAt, verdictsOf, zeros}
 use Rattle.rewriting.proofs.PairLaws.{lower-weighs-less, critical-limit, trim-pair}

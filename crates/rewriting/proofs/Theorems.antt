@@ -5,24 +5,26 @@ use native.Mathlib.Omega.{arith}
 use lib.ListN.{length, getD, length-map}
 use borrow.Author.Tests.{ltb-false}
 use Rattle.lists.proofs.Below.{below-length, below-element, below-each}
-use Rattle.circuit.specs.Circuit.{Circuit}
+use Rattle.circuit.specs.Circuit.{Circuit, firstGate}
+use Rattle.circuit.specs.Refusal.{hasGateKind, KnownKinds}
 use Rattle.circuit.specs.Table.{inputs, outputs, decode, encode}
 use Rattle.circuit.specs.WellFormed.{WellFormed}
 use Rattle.circuit.specs.Evaluation.{evaluate}
 use Rattle.circuit.specs.Depth.{circuitDepth}
-use Rattle.circuit.specs.Critical.{criticalCount}
+use Rattle.circuit.specs.Critical.{criticalCount, pairOf}
 use Rattle.circuit.proofs.TableLaws.{outputs-length}
 use Rattle.circuit.proofs.RefusalLaws.{accepted-is-well-formed}
-use Rattle.circuit.proofs.EncodingLaws.{decode-after-encode}
+use Rattle.circuit.proofs.EachLaws.{all-each}
+use Rattle.circuit.proofs.EncodingLaws.{encode-inputs, encode-gate-lines, decode-after-encode}
 use Rattle.circuit.proofs.ValidLaws.{Valid, Limited, valid-decode, limited-decode, well-formed-encode}
 use Rattle.rules.specs.SiteTable.{siteCount, siteAt}
 use Rattle.rules.proofs.RefusalLaws.{accepted-rules-are-well-formed}
 use Rattle.rules.proofs.SiteLaws.{accepted-sites-are-well-formed}
 use Rattle.rules.proofs.SubstitutionLaws.{gate-from, gate-to}
 use Rattle.rewriting.specs.Replacement.{renaming, replace}
-use Rattle.rewriting.specs.Pair.{pairOf, isLower}
+use Rattle.rewriting.specs.Pair.{isLower}
 use Rattle.rewriting.specs.Run.{State, startState, step, verdictAt, stateAt, finalState, allVerdicts}
-use Rattle.rewriting.specs.RewriteCall.{Outcome, doneValues}
+use Rattle.rewriting.specs.RewriteCall.{Lent, doneValues}
 use Rattle.rewriting.specs.Theorems.{ReplacementCounts, ReplacementIsWellFormed, ReplacementKeepsOutputs, PairBeforeTrim, RunIsSafe, SuccessIsSafe, SuccessLeavesTable, SuccessKeepsEvaluation, SuccessIsBounded}
 use Rattle.rewriting.proofs.ReplacementLaws.{replace-length, replace-valid, replace-limited, replace-evaluate}
 use Rattle.rewriting.proofs.StepLaws.{verdict-limit, replaced-pair, kept-site-lowers, other-site-leaves}
@@ -33,11 +35,17 @@ use Rattle.rewriting.proofs.CallLaws.{rewriting-given}
 
 -- a circuit whose table is well formed
 module _ (c : Circuit) (w : WellFormed (encode c)) where
+  known : KnownKinds c
+  known = all-each hasGateKind (firstGate (c .inputs)) (c .gates) (rw (encode-inputs c, encode-gate-lines c) at (w .gate-kinds))
+
+  pub decode-encoded : decode (encode c) ≡ c
+  decode-encoded = decode-after-encode c known
+
   pub valid-encoded : Valid c
-  valid-encoded = rw (decode-after-encode c) at (valid-decode (encode c) w)
+  valid-encoded = rw decode-encoded at (valid-decode (encode c) w)
 
   pub limited-encoded : Limited c
-  limited-encoded = rw (decode-after-encode c) at (limited-decode (encode c) (w .sized))
+  limited-encoded = rw decode-encoded at (limited-decode (encode c) (w .sized))
 
 -- ---- replacement
 
@@ -82,7 +90,7 @@ run-is-safe circuit rules sites w r =
       other-leaves = λ i h e.
           after-more rules sites start i ∙ other-site-leaves rules (stateAt circuit rules sites i) (siteAt sites i) (λ z. e (element i h ∙ z));
       same-outputs = run .same-outputs;
-      trimmed = trim-encode (finalState circuit rules sites .circuit) ∙ ap encode (run .trimmed);
+      trimmed = trim-encode (finalState circuit rules sites .circuit) (run .valid .kinds) ∙ ap encode (run .trimmed);
       well-formed = running-well-formed c (finalState circuit rules sites) run;
       same-inputs = run .same-inputs;
       output-count = run .output-count ∙ outputs-length circuit;
@@ -106,15 +114,16 @@ success-is-safe circuit rules sites result work verdicts values e =
 pub success-leaves-table : SuccessLeavesTable
 success-leaves-table circuit rules sites result work verdicts values e =
     let (a, b, d, v, q) = rewriting-given circuit rules sites result work verdicts values e in
-    (ap (λ (o : Outcome). o .result) q, ap (λ (o : Outcome). o .verdicts) q)
+    (ap (λ (x : Lent). x .result) q, ap (λ (x : Lent). x .verdicts) q)
 
 pub success-keeps-evaluation : SuccessKeepsEvaluation
 success-keeps-evaluation circuit rules sites result work verdicts values e =
     let (w, r, s, v, safe) = success-is-safe circuit rules sites result work verdicts values e in
     let c = finalState circuit rules sites .circuit in
-    let m : inputs (encode c) ≡ inputs circuit = ap (λ (x : Circuit). x .inputs) (decode-after-encode c) ∙ safe .same-inputs in
-    let n : outputs (encode c) ≡ outputs circuit = sym (outputs-length (encode c)) ∙ ap (λ (x : Circuit). length (x .outputs)) (decode-after-encode c) ∙ safe .output-count in
-    same-evaluation circuit (encode c) w (safe .well-formed) m n (λ bytes h. ap (λ x. evaluate x bytes) (decode-after-encode c) ∙ safe .same-outputs bytes h)
+    let d = decode-encoded c (safe .well-formed) in
+    let m : inputs (encode c) ≡ inputs circuit = ap (λ (x : Circuit). x .inputs) d ∙ safe .same-inputs in
+    let n : outputs (encode c) ≡ outputs circuit = sym (outputs-length (encode c)) ∙ ap (λ (x : Circuit). length (x .outputs)) d ∙ safe .output-count in
+    same-evaluation circuit (encode c) w (safe .well-formed) m n (λ bytes h. ap (λ x. evaluate x bytes) d ∙ safe .same-outputs bytes h)
 
 pub success-is-bounded : SuccessIsBounded
 unfolding doneValues

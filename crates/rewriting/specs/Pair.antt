@@ -1,14 +1,9 @@
--- 01, Depth and critical count, 5: pairs (D, N), and when one is lower.
+-- 01, Depth and critical count, 5: when a pair (D, N) is lower.
 use Prim.Native.Nat.{ℕ, _+_, _*_}
 use mathlib.Core.Bool.{Bool, _&&_, _||_}
 use lib.Dec.{eqb, ltb}
-use Rattle.circuit.specs.Circuit.{Circuit, maxGates}
-use Rattle.circuit.specs.Depth.{circuitDepth}
-use Rattle.circuit.specs.Critical.{criticalCount}
-use Rattle.circuit.specs.declared.checked.DepthPair.{DepthPair}
-
-abbrev pub pairOf : Circuit → DepthPair
-pairOf c = record { depth = circuitDepth c; critical = criticalCount c }
+use Rattle.circuit.specs.Circuit.{maxGates}
+use Rattle.circuit.specs.declared.critical.DepthPair.{DepthPair}
 
 -- D is lower, or D is equal and N lower.
 unfoldable pub isLower : (new old : DepthPair) → Bool

@@ -6,14 +6,15 @@ use lib.Dec.{eqb, ltb}
 use lib.ListN.{length, take, drop, getD}
 use Rattle.lists.specs.First.{first}
 use Rattle.circuit.specs.Circuit.{Gate, Circuit, firstGate}
+use Rattle.circuit.specs.Table.{closingLine, encodeLines}
 use Rattle.circuit.specs.Trim.{renameGate}
 use Rattle.rules.specs.Rule.{Rule}
 use Rattle.rules.specs.Match.{boundTo}
 
--- 01, Sites, 9: what reference r of the right side is in the circuit, `start` being that of the side's first gate. A constant or a hole is
+-- 01, Sites, 9: what reference r of the right side is in the circuit, `base` being that of the side's first gate. A constant or a hole is
 -- what it is bound to; the right gates have the references from the site's gate on.
-unfoldable pub instanceOf : (start gate : ℕ) (bindings : List ℕ) → (r : ℕ) → ℕ
-instanceOf start gate b r = first (ltb r start) (boundTo b r) (gate + (r - start))
+unfoldable pub instanceOf : (base gate : ℕ) (bindings : List ℕ) → (r : ℕ) → ℕ
+instanceOf base gate b r = first (ltb r base) (boundTo b r) (gate + (r - base))
 
 -- 01, Sites, 10 and 11: what reference v of the circuit becomes, where the gate becomes `closing` and `count` gates take its place. What is
 -- below the gate stays; what is later moves up by `count` gates and down by the one that they replace.
@@ -48,11 +49,20 @@ replace c u gate b =
       outputs = map (renaming u gate b) (c .outputs);
     }
 
--- Every reference below `start`, a constant or a hole, is bound.
-abbrev pub AllBound : (start : ℕ) (bindings : List ℕ) → Type 0
-AllBound start b = (r : ℕ) → r < start → 0 < getD b r 0
+-- the table's lines of some right gates, of some of the circuit's gates, and of some outputs, so renamed
+abbrev pub instanceLines : (base gate : ℕ) (bindings : List ℕ) → List Gate → List ℕ
+instanceLines base gate b gs = encodeLines (map (renameGate (instanceOf base gate b)) gs)
 
--- What the replacing code relies on: constants and holes are bound, to references below the gate. The bindings of a match are (law
--- `bound-below`).
+abbrev pub renumberedLines : (gate closing count : ℕ) → List Gate → List ℕ
+renumberedLines gate closing count gs = encodeLines (map (renameGate (renumber gate closing count)) gs)
+
+abbrev pub renumberedClosings : (gate closing count : ℕ) (outputs : List ℕ) → List ℕ
+renumberedClosings gate closing count os = encodeLines (map closingLine (map (renumber gate closing count) os))
+
+-- Every reference below `base`, a constant or a hole, is bound.
+abbrev pub AllBound : (base : ℕ) (bindings : List ℕ) → Type 0
+AllBound base b = (r : ℕ) → r < base → 0 < getD b r 0
+
+-- What the replacing code relies on: constants and holes are bound, to references below the gate, as they are by a match.
 abbrev pub BoundBelow : Rule → (gate : ℕ) (bindings : List ℕ) → Type 0
 BoundBelow u gate b = (r : ℕ) → r < firstGate (u .holes) → (0 < getD b r 0) × (boundTo b r < gate)

@@ -8,6 +8,7 @@ use Rattle.circuit.specs.Circuit.{Circuit}
 use Rattle.circuit.specs.Table.{decode}
 use Rattle.circuit.specs.Trim.{trim}
 use Rattle.rules.specs.SiteTable.{Site, siteCount, siteAt}
+use Rattle.rules.specs.Verdict.{passes}
 use Rattle.rewriting.specs.Verdict.{rewritten, verdictOf}
 
 -- the circuit as it then is, and how many sites were kept
@@ -28,7 +29,7 @@ keeping rules s site = record { circuit = rewritten (s .circuit) rules site; kep
 unfoldable pub step : (rules : List ℕ) → State → Site → Step
 step rules s site =
     record {
-      next = first (eqb (verdictOf (s .circuit) rules site) 0) (keeping rules s site) s;
+      next = first (eqb (verdictOf (s .circuit) rules site) passes) (keeping rules s site) s;
       verdict = verdictOf (s .circuit) rules site;
     }
 
@@ -48,18 +49,28 @@ verdictAt rules sites start i = step rules (afterSites rules sites start i) (sit
 abbrev pub verdictsOf : (rules sites : List ℕ) (start : State) → (n : ℕ) → List ℕ
 verdictsOf rules sites start = mapBelow (verdictAt rules sites start)
 
+-- the state after the whole list, and the verdicts of its sites
+abbrev pub afterAll : (rules sites : List ℕ) (start : State) → State
+afterAll rules sites start = afterSites rules sites start (siteCount sites)
+
+abbrev pub verdictsOn : (rules sites : List ℕ) (start : State) → List ℕ
+verdictsOn rules sites start = verdictsOf rules sites start (siteCount sites)
+
 -- how many of some verdicts are 0
 unfoldable pub zeros : (verdicts : List ℕ) → ℕ
 zeros [] = 0
-zeros (v ∷ vs) = first (eqb v 0) (1 + zeros vs) (zeros vs)
+zeros (v ∷ vs) = first (eqb v passes) (1 + zeros vs) (zeros vs)
 
 -- of the tables: the state that site i gets, the first being 0, and so what the sites before it left
 abbrev pub stateAt : (circuit rules sites : List ℕ) → (i : ℕ) → State
 stateAt circuit rules sites = afterSites rules sites (startState (decode circuit))
 
--- 01, Sites, 18: what the whole list leaves, and a verdict a site
+-- 01, Sites, 18: what the whole list leaves, the circuit handed back, and a verdict a site
 abbrev pub finalState : (circuit rules sites : List ℕ) → State
-finalState circuit rules sites = stateAt circuit rules sites (siteCount sites)
+finalState circuit rules sites = afterAll rules sites (startState (decode circuit))
+
+abbrev pub handedBack : (circuit rules sites : List ℕ) → Circuit
+handedBack circuit rules sites = finalState circuit rules sites .circuit
 
 abbrev pub allVerdicts : (circuit rules sites : List ℕ) → List ℕ
-allVerdicts circuit rules sites = verdictsOf rules sites (startState (decode circuit)) (siteCount sites)
+allVerdicts circuit rules sites = verdictsOn rules sites (startState (decode circuit))

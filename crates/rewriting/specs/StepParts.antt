@@ -4,16 +4,18 @@ use mathlib.Core.Bool.{not}
 use mathlib.Core.List.{List}
 use lib.Dec.{eqb}
 use Rattle.lists.specs.First.{first}
+use Rattle.circuit.specs.Critical.{pairOf}
 use Rattle.circuit.specs.Circuit.{Circuit}
 use Rattle.circuit.specs.Trim.{trim}
-use Rattle.circuit.specs.declared.checked.DepthPair.{DepthPair}
+use Rattle.circuit.specs.declared.critical.DepthPair.{DepthPair}
 use Rattle.rules.specs.declared.SiteMatch.{SiteMatch}
 use Rattle.rules.specs.RuleTable.{ruleOf}
 use Rattle.rules.specs.SiteTable.{Site}
+use Rattle.rules.specs.Verdict.{passes}
 use Rattle.rewriting.specs.declared.run.Run.{Run}
 use Rattle.rewriting.specs.declared.run.Stepped.{Stepped}
-use Rattle.rewriting.specs.Pair.{pairOf, isLower}
-use Rattle.rewriting.specs.Verdict.{siteMatch, isTooLarge}
+use Rattle.rewriting.specs.Pair.{isLower}
+use Rattle.rewriting.specs.Verdict.{tooLarge, notLower, siteMatch, isTooLarge}
 use Rattle.rewriting.specs.Run.{State, Step}
 use Rattle.rewriting.specs.RunState.{runPair}
 
@@ -22,8 +24,8 @@ abbrev pub matchWithin : Circuit → (rules : List ℕ) → Site → SiteMatch
 matchWithin c rules s =
     record {
       verdict =
-          first (not (eqb (siteMatch c rules s .verdict) 0)) (siteMatch c rules s .verdict)
-          (first (isTooLarge c (ruleOf rules (s .rule))) 5 0);
+          first (not (eqb (siteMatch c rules s .verdict) passes)) (siteMatch c rules s .verdict)
+          (first (isTooLarge c (ruleOf rules (s .rule))) tooLarge passes);
       bindings = siteMatch c rules s .bindings;
     }
 
@@ -32,12 +34,12 @@ matchWithin c rules s =
 abbrev pub settled : State → (replaced : Circuit) → Step
 settled s c =
     first (isLower (pairOf c) (pairOf (s .circuit)))
-    (record { next = record { circuit = trim c; kept = s .kept + 1 }; verdict = 0 })
-    (record { next = s; verdict = 6 })
+    (record { next = record { circuit = trim c; kept = s .kept + 1 }; verdict = passes })
+    (record { next = s; verdict = notLower })
 
--- and the numbers that go by value, by its pair
+-- and the numbers that go by value, by its pair; where its table ends is known once it is trimmed
 abbrev pub compared : Run → (new : DepthPair) → Stepped
 compared run new =
     first (isLower new (runPair run))
-    (record { run = record { depth = new .depth; critical = new .critical; kept = run .kept + 1 }; verdict = 0 })
-    (record { run = run; verdict = 6 })
+    (record { run = record { end = run .end; depth = new .depth; critical = new .critical; kept = run .kept + 1 }; verdict = passes })
+    (record { run = run; verdict = notLower })

@@ -8,21 +8,23 @@ use mathlib.Core.Option.{some}
 use lib.ListN.{length}
 use Rattle.lines.specs.Refusal.{refused, gives}
 use Rattle.lines.specs.Calls.{over}
+use Rattle.circuit.specs.Critical.{pairOf}
 use Rattle.circuit.specs.Circuit.{Circuit, maxGates}
 use Rattle.circuit.specs.Table.{encode}
 use Rattle.circuit.specs.WellFormed.{WellFormed}
 use Rattle.circuit.specs.Evaluation.{evaluate}
 use Rattle.circuit.specs.EvaluateCall.{evaluating}
 use Rattle.circuit.specs.Path.{isGate}
-use Rattle.circuit.specs.declared.checked.DepthPair.{DepthPair}
+use Rattle.circuit.specs.declared.critical.DepthPair.{DepthPair}
 use Rattle.rules.specs.Rule.{Rule}
 use Rattle.rules.specs.RuleTable.{ruleOf}
 use Rattle.rules.specs.SiteTable.{Site}
 use Rattle.rules.specs.Soundness.{isSound}
 use Rattle.rules.specs.Substitution.{Substitution}
+use Rattle.rules.specs.Verdict.{passes}
 use Rattle.rules.specs.WellFormed.{ValidRule, WellFormedRules, WellFormedSites}
 use Rattle.rewriting.specs.Replacement.{replace}
-use Rattle.rewriting.specs.Pair.{pairOf, isLower, weight}
+use Rattle.rewriting.specs.Pair.{isLower, weight}
 use Rattle.rewriting.specs.Verdict.{siteMatch, isTooLarge, replaced, rewritten, verdictOf}
 use Rattle.rewriting.specs.Run.{State, keeping, step, finalState, allVerdicts}
 use Rattle.rewriting.specs.SafeRun.{SafeRun}
@@ -59,7 +61,7 @@ LowerWeighsLess = (new old : DepthPair) → new .critical ≤ maxGates → isLow
 -- The pair after replacement and trimming is that after replacement alone.
 abbrev pub PairBeforeTrim : Type 0
 PairBeforeTrim =
-    (c : Circuit) → WellFormed (encode c) → (rules : List ℕ) → WellFormedRules rules → (site : Site) → siteMatch c rules site .verdict ≡ 0
+    (c : Circuit) → WellFormed (encode c) → (rules : List ℕ) → WellFormedRules rules → (site : Site) → siteMatch c rules site .verdict ≡ passes
     → pairOf (rewritten c rules site) ≡ pairOf (replaced c rules site)
 
 -- ---- a site
@@ -68,20 +70,20 @@ PairBeforeTrim =
 abbrev pub KeptIsLower : Type 0
 KeptIsLower =
     (c : Circuit) (rules : List ℕ) (site : Site)
-    → (verdictOf c rules site ≡ 0)
-    ↔ ((siteMatch c rules site .verdict ≡ 0) × (isTooLarge c (ruleOf rules (site .rule)) ≡ false)
+    → (verdictOf c rules site ≡ passes)
+    ↔ ((siteMatch c rules site .verdict ≡ passes) × (isTooLarge c (ruleOf rules (site .rule)) ≡ false)
     × (isLower (pairOf (rewritten c rules site)) (pairOf c) ≡ true))
 
 -- A kept site leaves the rewritten circuit, whose pair is lower.
 abbrev pub KeptSiteLowers : Type 0
 KeptSiteLowers =
-    (rules : List ℕ) (s : State) (site : Site) → step rules s site .verdict ≡ 0
+    (rules : List ℕ) (s : State) (site : Site) → step rules s site .verdict ≡ passes
     → (step rules s site .next ≡ keeping rules s site)
     × (isLower (pairOf (step rules s site .next .circuit)) (pairOf (s .circuit)) ≡ true)
 
 -- Any other site leaves what it was given.
 abbrev pub OtherSiteLeaves : Type 0
-OtherSiteLeaves = (rules : List ℕ) (s : State) (site : Site) → (step rules s site .verdict ≡ 0 → ⊥) → step rules s site .next ≡ s
+OtherSiteLeaves = (rules : List ℕ) (s : State) (site : Site) → (step rules s site .verdict ≡ passes → ⊥) → step rules s site .next ≡ s
 
 -- ---- the run
 
@@ -96,9 +98,9 @@ abbrev pub RefusalKeepsBuffers : Type 0
 RefusalKeepsBuffers =
     (circuit rules sites result work verdicts : List ℕ) (number table : ℕ)
     → rewriting circuit rules sites result work verdicts .answer ≡ refused number table
-    → (rewriting circuit rules sites result work verdicts .result ≡ result)
-    × (rewriting circuit rules sites result work verdicts .work ≡ some work)
-    × (rewriting circuit rules sites result work verdicts .verdicts ≡ verdicts)
+    → (rewriting circuit rules sites result work verdicts .buffers .result ≡ result)
+    × (rewriting circuit rules sites result work verdicts .buffers .work ≡ some work)
+    × (rewriting circuit rules sites result work verdicts .buffers .verdicts ≡ verdicts)
 
 -- A success means that no table was refused; its numbers are the defined ones, and the run was safe.
 abbrev pub SuccessIsSafe : Type 0
@@ -110,8 +112,8 @@ SuccessIsSafe =
 abbrev pub SuccessLeavesTable : Type 0
 SuccessLeavesTable =
     (circuit rules sites result work verdicts values : List ℕ) → rewriting circuit rules sites result work verdicts .answer ≡ gives values
-    → (rewriting circuit rules sites result work verdicts .result ≡ over (encode (finalState circuit rules sites .circuit)) result)
-    × (rewriting circuit rules sites result work verdicts .verdicts ≡ over (allVerdicts circuit rules sites) verdicts)
+    → (rewriting circuit rules sites result work verdicts .buffers .result ≡ over (encode (finalState circuit rules sites .circuit)) result)
+    × (rewriting circuit rules sites result work verdicts .buffers .verdicts ≡ over (allVerdicts circuit rules sites) verdicts)
 
 -- The plain evaluator answers for that table as for the circuit first read, whatever bytes it is given.
 abbrev pub SuccessKeepsEvaluation : Type 0

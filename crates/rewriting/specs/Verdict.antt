@@ -5,15 +5,23 @@ use mathlib.Core.List.{List}
 use lib.Dec.{eqb, ltb}
 use lib.ListN.{length}
 use Rattle.lists.specs.First.{first}
+use Rattle.circuit.specs.Critical.{pairOf}
 use Rattle.circuit.specs.Circuit.{Circuit, maxGates}
 use Rattle.circuit.specs.Trim.{trim}
 use Rattle.rules.specs.declared.SiteMatch.{SiteMatch}
 use Rattle.rules.specs.Rule.{Rule}
 use Rattle.rules.specs.RuleTable.{ruleOf}
 use Rattle.rules.specs.SiteTable.{Site}
-use Rattle.rules.specs.Verdict.{matchSite}
+use Rattle.rules.specs.Verdict.{passes, matchSite}
 use Rattle.rewriting.specs.Replacement.{replace}
-use Rattle.rewriting.specs.Pair.{pairOf, isLower}
+use Rattle.rewriting.specs.Pair.{isLower}
+
+-- the verdicts that come after the match, by their numbers; a site that passes them too is kept
+abbrev pub tooLarge : ℕ
+tooLarge = 5
+
+abbrev pub notLower : ℕ
+notLower = 6
 
 -- 1 to 4, else 0 and the bindings
 abbrev pub siteMatch : Circuit → (rules : List ℕ) → Site → SiteMatch
@@ -34,7 +42,7 @@ rewritten c rules s = trim (replaced c rules s)
 -- 1 to 4, what the match says; 5; 6, the pair of the rewritten circuit is not lower than that of the circuit just before this site; else 0
 unfoldable pub verdictOf : Circuit → (rules : List ℕ) → Site → ℕ
 verdictOf c rules s =
-    first (not (eqb (siteMatch c rules s .verdict) 0)) (siteMatch c rules s .verdict)
-    (first (isTooLarge c (ruleOf rules (s .rule))) 5
-    (first (not (isLower (pairOf (rewritten c rules s)) (pairOf c))) 6
-    0))
+    first (not (eqb (siteMatch c rules s .verdict) passes)) (siteMatch c rules s .verdict)
+    (first (isTooLarge c (ruleOf rules (s .rule))) tooLarge
+    (first (not (isLower (pairOf (rewritten c rules s)) (pairOf c))) notLower
+    passes))

@@ -1,33 +1,32 @@
 // The rewriting of tables that no refusal applies to.
 ghost use mathlib.Core.Path.{_≡_};
 ghost use mathlib.Core.Bool.{false};
-ghost use Prim.Native.Nat.{_/_, _≤_};
+ghost use Prim.Native.Nat.{_≤_};
 ghost use lib.ListN.{length};
 ghost use Rattle.lines.specs.Calls.{over};
 ghost use Rattle.lines.specs.Refusal.{gives};
-ghost use Rattle.circuit.specs.Table.{encode, tableEnd};
+ghost use Rattle.circuit.specs.Circuit.{maxTable, lineCount};
+ghost use Rattle.circuit.specs.Table.{decode, encode};
 ghost use Rattle.circuit.specs.WellFormed.{WellFormed};
 ghost use Rattle.rules.specs.WellFormed.{WellFormedRules, WellFormedSites};
-ghost use Rattle.rewriting.specs.RewriteCall.{paperValues as rewrittenValues, areShort, maxTable, doneValues};
-ghost use Rattle.rewriting.specs.Run.{finalState, allVerdicts};
-ghost use Rattle.rewriting.specs.RunState.{tableIn};
+ghost use Rattle.rewriting.specs.RewriteCall.{paperValues as rewrittenValues, areShort, doneValues};
+ghost use Rattle.rewriting.specs.Run.{handedBack, allVerdicts};
 use crate::Rewritten;
 use crate::run::Run;
 use crate::run::run_sites;
 use circuit::checked::pair;
-use circuit::checked::table_end;
 use circuit::checked::trim;
 
-// The table that the working table begins with, over the front of `result`. What is given back is how many lines it has.
-fn copy_table(work: &[u32], result: &mut [u32]) -> u32
-    requires { ⌜ WellFormed (tableIn (now work)) ⌝ }
+// A circuit's table over the front of `result`. What is given back is how many lines it has.
+fn copy_table(table: &[u32], result: &mut [u32]) -> u32
+    requires { ⌜ WellFormed (now table) ⌝ }
     requires { ⌜ maxTable ≤ length (now result) ⌝ }
-    ensures { λ r. ⌜ r ≡ tableEnd (now (work .entry)) / 3 ⌝ }
-    ensures { λ _. ⌜ now (result .exit) ≡ over (tableIn (now (work .entry))) (now (result .entry)) ⌝ }
+    ensures { λ r. ⌜ r ≡ lineCount (decode (now (table .entry))) ⌝ }
+    ensures { λ _. ⌜ now (result .exit) ≡ over (now (table .entry)) (now (result .entry)) ⌝ }
 {
-    let end = table_end(work);
+    let end = table.len();
     for i in 0..end {
-        result[i] = work[i];
+        result[i] = table[i];
     }
     (end / 3) as u32
 }
@@ -46,18 +45,21 @@ pub fn rewrite_accepted(
     requires { ⌜ WellFormedSites (now sites) ⌝ }
     requires { ⌜ areShort (now result) (now work) (now verdicts) ≡ false ⌝ }
     ensures { λ r. ⌜ rewrittenValues r ≡ gives (doneValues (now (circuit .entry)) (now (rules .entry)) (now (sites .entry))) ⌝ }
-    ensures { λ _. ⌜ now (result .exit) ≡ over (encode (finalState (now (circuit .entry)) (now (rules .entry)) (now (sites .entry)) .circuit)) (now (result .entry)) ⌝ }
+    ensures { λ _. ⌜ now (result .exit) ≡ over
+        (encode (handedBack (now (circuit .entry)) (now (rules .entry)) (now (sites .entry)))) (now (result .entry)) ⌝ }
     ensures { λ _. ⌜ now (verdicts .exit) ≡ over (allVerdicts (now (circuit .entry)) (now (rules .entry)) (now (sites .entry))) (now (verdicts .entry)) ⌝ }
 {
     let old = pair(circuit);
-    trim(circuit, work);
+    let end = trim(circuit, work);
     let start = Run {
+        end: end,
         depth: old.depth,
         critical: old.critical,
         kept: 0,
     };
     let run = run_sites(start, rules, sites, work, verdicts);
-    let lines = copy_table(work, result);
+    let end = run.end;
+    let lines = copy_table(&work[..end], result);
     Rewritten::Done {
         lines: lines,
         old_depth: old.depth,

@@ -4,31 +4,42 @@ ghost use Prim.Native.Nat.{_≤_, _<_};
 ghost use lib.ListN.{length};
 ghost use Rattle.lists.specs.First.{first};
 ghost use Rattle.lines.specs.Calls.{over};
+ghost use Rattle.circuit.specs.Circuit.{maxTable};
 ghost use Rattle.circuit.specs.Table.{decode};
 ghost use Rattle.circuit.specs.WellFormed.{WellFormed};
 ghost use Rattle.rules.specs.RuleTable.{ruleAt};
-ghost use Rattle.rules.specs.SiteTable.{siteCount, maxSites};
+ghost use Rattle.rules.specs.SiteTable.{maxSites, site};
+ghost use Rattle.rules.specs.Verdict.{passes};
 ghost use Rattle.rules.specs.WellFormed.{WellFormedRule, WellFormedRules, WellFormedSites};
-ghost use Rattle.rewriting.specs.RewriteCall.{maxTable};
-ghost use Rattle.rewriting.specs.Run.{step, afterSites, verdictsOf};
-ghost use Rattle.rewriting.specs.RunState.{tableIn, stateOf, stepOf, Held};
+ghost use Rattle.rewriting.specs.Run.{step, afterAll, verdictsOn};
+ghost use Rattle.rewriting.specs.RunState.{stateOf, stepOf, Held};
 ghost use Rattle.rewriting.specs.StepParts.{matchWithin, compared, settled};
-ghost use Rattle.rewriting.specs.Verdict.{isTooLarge};
+ghost use Rattle.rewriting.specs.Verdict.{tooLarge, isTooLarge};
 use crate::replacing::replace;
 use circuit::checked::DepthPair;
 use circuit::checked::MAX_GATES;
 use circuit::checked::MAX_REFERENCES;
 use circuit::checked::MAX_TABLE;
 use circuit::checked::pair_with_reverse_depths;
-use circuit::checked::table_end;
 use circuit::checked::trim_by_reverse_depths;
+use rules::NO_MATCH;
+use rules::NO_RULE;
+use rules::NOT_A_GATE;
+use rules::NOT_SOUND;
+use rules::PASSES;
 use rules::SiteMatch;
 use rules::checked::place;
 use rules::checked::site_match;
 use rules::checked::sites_from;
 
-// What is handed on from site to site beside the working table: the pair of the circuit there, and how many sites were kept.
+// 01's numbers of the verdicts that come after the match (Sites, 13). A site that passes them too is kept.
+const TOO_LARGE: u32 = 5;
+
+const NOT_LOWER: u32 = 6;
+
+// What is handed on from site to site beside the working table: where the circuit's table there ends, its pair, and how many sites were kept.
 pub struct Run {
+    pub end: usize,
     pub depth: u32,
     pub critical: u32,
     pub kept: u32,
@@ -40,41 +51,40 @@ pub struct Stepped {
     pub verdict: u32,
 }
 
-// The verdict 5 of the rule at p, else 0.
-fn size_verdict(work: &[u32], rules: &[u32], p: usize) -> u32
-    requires { ⌜ WellFormed (tableIn (now work)) ⌝ }
+// TOO_LARGE, else PASSES, of the rule at p.
+fn size_verdict(table: &[u32], rules: &[u32], p: usize) -> u32
+    requires { ⌜ WellFormed (now table) ⌝ }
     requires { ⌜ WellFormedRule (now rules) p ⌝ }
-    ensures { λ r. ⌜ r ≡ first (isTooLarge (decode (now (work .entry))) (ruleAt (now (rules .entry)) p)) 5 0 ⌝ }
+    ensures { λ r. ⌜ r ≡ first (isTooLarge (decode (now (table .entry))) (ruleAt (now (rules .entry)) p)) tooLarge passes ⌝ }
 {
-    if MAX_GATES + 1 < work[1] + rules[p + 2] {
-        return 5;
+    if MAX_GATES + 1 < table[1] + rules[p + 2] {
+        return TOO_LARGE;
     }
-    0
+    PASSES
 }
 
-// The first of a site's verdicts 1 to 5 that applies, else 0, with the bindings of the match.
-fn match_within(work: &[u32], rules: &[u32], rule: u32, gate: u32, mask: u32) -> SiteMatch
-    requires { ⌜ WellFormed (tableIn (now work)) ⌝ }
+// The first of a site's verdicts up to TOO_LARGE that applies, else PASSES, with the bindings of the match.
+fn match_within(table: &[u32], rules: &[u32], rule: u32, gate: u32, mask: u32) -> SiteMatch
+    requires { ⌜ WellFormed (now table) ⌝ }
     requires { ⌜ WellFormedRules (now rules) ⌝ }
-    ensures { λ r. ⌜ r ≡ matchWithin (decode (now (work .entry))) (now (rules .entry)) (record { rule = rule; gate = gate; mask = mask }) ⌝ }
+    ensures { λ r. ⌜ r ≡ matchWithin (decode (now (table .entry))) (now (rules .entry)) (site rule gate mask) ⌝ }
 {
-    let end = table_end(work);
-    let found = site_match(&work[..end], rules, rule, gate, mask);
+    let found = site_match(table, rules, rule, gate, mask);
     let verdict = found.verdict;
     match verdict {
-        0 => {
+        NO_RULE | NOT_SOUND | NOT_A_GATE | NO_MATCH => found,
+        PASSES | _ => {
             let bindings = found.bindings;
             SiteMatch {
-                verdict: size_verdict(work, rules, place(rules, rule)),
+                verdict: size_verdict(table, rules, place(rules, rule)),
                 bindings: bindings,
             }
         }
-        _ => found,
     }
 }
 
 impl Run {
-    // The next run by the pair of the circuit after replacement, and the verdict, 0 or 6.
+    // The next run by the pair of the circuit after replacement, and NOT_LOWER, else PASSES.
     fn compare(self, new: DepthPair) -> Stepped
         requires { ⌜ self .kept < maxSites ⌝ }
         ensures { λ r. ⌜ r ≡ compared self new ⌝ }
@@ -83,38 +93,47 @@ impl Run {
             let kept = self.kept + 1;
             return Stepped {
                 run: Run {
+                    end: self.end,
                     depth: new.depth,
                     critical: new.critical,
                     kept: kept,
                 },
-                verdict: 0,
+                verdict: PASSES,
             };
         }
         Stepped {
             run: self,
-            verdict: 6,
+            verdict: NOT_LOWER,
         }
     }
 
-    // What the circuit after replacement, with whose table `candidate` begins, leaves: it is trimmed into the working table if it is kept.
-    // Its pair is measured before, so that the others cost no trim; the reverse depths serve both.
+    // What the circuit after replacement, whose table `candidate` is, leaves: it is trimmed into the working table if it is kept. Its pair is
+    // measured before, so that the others cost no trim; the reverse depths serve both.
     fn settle(self, candidate: &[u32], work: &mut [u32]) -> Stepped
-        requires { ⌜ WellFormed (tableIn (now candidate)) ⌝ }
+        requires { ⌜ WellFormed (now candidate) ⌝ }
         requires { ⌜ Held self (now work) ⌝ }
         requires { ⌜ self .kept < maxSites ⌝ }
         ensures { λ r. ⌜ stepOf r (now (work .exit)) ≡ settled (stateOf self (now (work .entry))) (decode (now (candidate .entry))) ⌝ }
         ensures { λ r. ⌜ Held (r .run) (now (work .exit)) ⌝ }
     {
-        let end = table_end(candidate);
         let mut reverse = [0u32; MAX_REFERENCES];
-        let next = self.compare(pair_with_reverse_depths(&candidate[..end], &mut reverse));
+        let next = self.compare(pair_with_reverse_depths(candidate, &mut reverse));
         let verdict = next.verdict;
         match verdict {
-            0 => {
-                trim_by_reverse_depths(&candidate[..end], &reverse, work);
-                next
+            NOT_LOWER => next,
+            PASSES | _ => {
+                let run = next.run;
+                let end = trim_by_reverse_depths(candidate, &reverse, work);
+                Stepped {
+                    run: Run {
+                        end: end,
+                        depth: run.depth,
+                        critical: run.critical,
+                        kept: run.kept,
+                    },
+                    verdict: verdict,
+                }
             }
-            _ => next,
         }
     }
 
@@ -133,16 +152,20 @@ impl Run {
         requires { ⌜ maxTable ≤ length (now candidate) ⌝ }
         requires { ⌜ Held self (now work) ⌝ }
         requires { ⌜ self .kept < maxSites ⌝ }
-        ensures { λ r. ⌜ stepOf r (now (work .exit)) ≡ step (now (rules .entry)) (stateOf self (now (work .entry))) (record { rule = rule; gate = gate; mask = mask }) ⌝ }
+        ensures { λ r. ⌜ stepOf r (now (work .exit)) ≡ step (now (rules .entry)) (stateOf self (now (work .entry))) (site rule gate mask) ⌝ }
         ensures { λ r. ⌜ Held (r .run) (now (work .exit)) ⌝ }
     {
-        let found = match_within(work, rules, rule, gate, mask);
+        let end = self.end;
+        let found = match_within(&work[..end], rules, rule, gate, mask);
         let verdict = found.verdict;
         match verdict {
-            0 => {
-                let end = table_end(work);
+            NO_RULE | NOT_SOUND | NOT_A_GATE | NO_MATCH | TOO_LARGE => Stepped {
+                run: self,
+                verdict: verdict,
+            },
+            PASSES | _ => {
                 let bindings = found.bindings;
-                replace(
+                let new_end = replace(
                     &work[..end],
                     rules,
                     place(rules, rule),
@@ -150,12 +173,8 @@ impl Run {
                     &bindings,
                     candidate,
                 );
-                self.settle(candidate, work)
+                self.settle(&candidate[..new_end], work)
             }
-            _ => Stepped {
-                run: self,
-                verdict: verdict,
-            },
         }
     }
 }
@@ -173,9 +192,10 @@ pub fn run_sites(
     requires { ⌜ Held start (now work) ⌝ }
     requires { ⌜ start .kept ≡ 0 ⌝ }
     requires { ⌜ maxSites ≤ length (now verdicts) ⌝ }
-    ensures { λ r. ⌜ stateOf r (now (work .exit)) ≡ afterSites (now (rules .entry)) (now (sites .entry)) (stateOf start (now (work .entry))) (siteCount (now (sites .entry))) ⌝ }
+    ensures { λ r. ⌜ stateOf r (now (work .exit)) ≡ afterAll (now (rules .entry)) (now (sites .entry)) (stateOf start (now (work .entry))) ⌝ }
     ensures { λ r. ⌜ Held r (now (work .exit)) ⌝ }
-    ensures { λ _. ⌜ now (verdicts .exit) ≡ over (verdictsOf (now (rules .entry)) (now (sites .entry)) (stateOf start (now (work .entry))) (siteCount (now (sites .entry)))) (now (verdicts .entry)) ⌝ }
+    ensures { λ _. ⌜ now (verdicts .exit) ≡ over
+        (verdictsOn (now (rules .entry)) (now (sites .entry)) (stateOf start (now (work .entry)))) (now (verdicts .entry)) ⌝ }
 {
     let mut candidate = [0u32; MAX_TABLE];
     let mut run = start;

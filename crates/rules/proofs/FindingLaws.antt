@@ -12,21 +12,25 @@ use lib.ListN.{length, drop, getD, set, length-set, length-drop}
 use lib.Seq.{getD-set-same, getD-set-other, getD-drop}
 use borrow.Author.Tests.{eqb-true, eqb-false, eq-eqb}
 use Rattle.lists.specs.First.{first}
+use Rattle.lists.specs.Below.{allBelow}
+use Rattle.lists.proofs.Tests.{right-of}
 use Rattle.lists.proofs.Below.{below-at}
 use Rattle.circuit.specs.Circuit.{Gate, Circuit, firstGate, noGate, gateAt}
 use Rattle.circuit.specs.Path.{isOperand, isUsed}
 use Rattle.circuit.specs.Refusal.{operandsBelow}
 use Rattle.circuit.proofs.EachLaws.{each-at, each-all}
 use Rattle.circuit.proofs.ValidLaws.{of-ordered}
-use Rattle.rules.specs.Rule.{Rule, root, maxLeftReferences}
+use Rattle.rules.specs.Rule.{Rule, hole, root, maxLeftReferences}
+use Rattle.rules.specs.RuleRefusal.{holeUsed, leftUsed}
 use Rattle.rules.specs.WellFormed.{ValidRule}
-use Rattle.rules.specs.Match.{boundTo, bindReference, bindOperands, matchGate, isSwapped, matchGates, startBindings, matchRule}
+use Rattle.rules.specs.Match.{optional, binding, boundTo, bindReference, bindOperands, matchGate, isSwapped, matchGates, startBindings, matchRule}
 use Rattle.rules.specs.Substitution.{BoundGate, Substitution}
 use Rattle.rules.specs.Theorems.{SubstitutionIsFound}
-use Rattle.rules.proofs.UseLaws.{used-later}
-use Rattle.rules.proofs.SubstitutionLaws.{user-of, start-long, start-root, start-zero, start-one, start-else}
+use Rattle.rules.proofs.MatchLaws.{some-coded, bind-coded, gate-coded}
+use Rattle.rules.proofs.UseLaws.{used-later, uses-below}
+use Rattle.rules.proofs.SubstitutionLaws.{left-coded, right-coded, user-of, start-long, start-root, start-zero, start-one, start-else}
 
--- a step of the match, from d to d′, on the way to b: what is bound is bound as in b, and stays so
+-- a part of the match, from d to d′, on the way to b: what is bound is bound as in b, and stays so
 record Nearer (b d d′ : List ℕ) : Type 0 where
   within : (s : ℕ) → 0 < getD d′ s 0 → getD d′ s 0 ≡ getD b s 0
   stays : (s : ℕ) → 0 < getD d s 0 → 0 < getD d′ s 0
@@ -39,8 +43,7 @@ module _ (b : List ℕ) where
   module _ (r v : ℕ) (is : getD b r 0 ≡ v + 1) where
     reference-found : (d : List ℕ) → ((s : ℕ) → 0 < getD d s 0 → getD d s 0 ≡ getD b s 0) → r < length d
         → (d′ : List ℕ) × (bindReference r v d ≡ some d′) × Nearer b d d′ × (0 < getD d′ r 0)
-    unfolding bindReference
-    reference-found d near h = go (eqb (getD d r 0) 0) refl
+    reference-found d near h = let (d′, e, n, k) = go (eqb (getD d r 0) 0) refl in (d′, bind-coded r v d ∙ e, n, k)
       where
         go : (x : Bool) → eqb (getD d r 0) 0 ≡ x → (d′ : List ℕ)
             × (first x (some (set d r (v + 1))) (first (eqb (getD d r 0) (v + 1)) (some d) none) ≡ some d′) × Nearer b d d′ × (0 < getD d′ r 0)
@@ -78,13 +81,12 @@ module _ (b : List ℕ) where
   gate-found : (c : Circuit) (m : ℕ) (g : Gate) (swap : Bool) → BoundGate c b m g swap
       → (d : List ℕ) → ((s : ℕ) → 0 < getD d s 0 → getD d s 0 ≡ getD b s 0) → 0 < getD d m 0 → g .left < length d → g .right < length d
       → (d′ : List ℕ) × (matchGate c m g swap d ≡ some d′) × Nearer b d d′ × (0 < getD d′ (g .left) 0) × (0 < getD d′ (g .right) 0)
-  unfolding matchGate
   gate-found c m g swap f d near k hl hr =
       let e : getD d m 0 ≡ getD b m 0 = near m k in
       let at : boundTo b m ≡ boundTo d m = omega arith in
       let h = gateAt c (boundTo b m) in
-      let (d₁, p, n, l, r) = operands-found g (first swap (h .right) (h .left)) (first swap (h .left) (h .right)) (f .left) (f .right) d near hl hr in
-      (d₁, rw (← at, f .is-gate, eq-eqb (h .kind) (g .kind) (f .kind)) (crossed swap (h .left) (h .right) ∙ p), n, l, r)
+      let (d₁, p, n, l, r) = operands-found g (first swap (h .right) (h .left)) (first swap (h .left) (h .right)) (left-coded c b m g swap f) (right-coded c b m g swap f) d near hl hr in
+      (d₁, rw (gate-coded c m g swap d, ← at, f .is-gate, eq-eqb (h .kind) (g .kind) (f .kind)) (crossed swap (h .left) (h .right) ∙ p), n, l, r)
     where
       crossed : (s : Bool) (x y : ℕ) → first s (bindOperands g y x d) (bindOperands g x y d) ≡ bindOperands g (first s y x) (first s x y) d
       crossed true x y = refl
@@ -111,11 +113,9 @@ module _ (c : Circuit) (u : Rule) (w : ValidRule u) (gate mask : ℕ) (b : List 
       elim (decLt (i + 1) (length (u .lefts))) [
         | no l ↦ let e : root u ≡ n₀ + i = omega arith in rw e at top
         | yes l ↦
-            let x : n₀ + i ≡ u .holes + i + 2 = omega arith in
             let used : isUsed (n₀ + i) (drop (i + 1) (u .lefts)) ≡ true =
             used-later n₀ (u .lefts) (each-all operandsBelow n₀ (u .lefts) (of-ordered n₀ (u .lefts) (w .lefts-ordered))) (i + 1) (n₀ + i) (omega arith)
-            ∙ ap (λ r. isUsed r (u .lefts)) x
-            ∙ below-at (λ i. isUsed (i + 2) (u .lefts)) (u .holes + length (u .lefts) - 1) (u .holes + i) (w .uses) (omega arith) in
+            ∙ below-at (leftUsed u) (length (u .lefts) - 1) i (right-of (allBelow (holeUsed u) (u .holes)) _ (w .uses)) (omega arith) in
             let (k, q, o) = user-of (n₀ + i) (drop (i + 1) (u .lefts)) used in
             ready (i + 1 + k) (omega arith) (omega (arith, length-drop (i + 1) (u .lefts))) (n₀ + i)
             (ap (λ g. isOperand (n₀ + i) g) (sym (getD-drop (i + 1) (u .lefts) k noGate)) ∙ o)
@@ -145,9 +145,9 @@ module _ (c : Circuit) (u : Rule) (w : ValidRule u) (gate mask : ℕ) (b : List 
   start-near s h = go s (ℕ-discrete s (root u)) h
     where
       go : (s : ℕ) → Dec (s ≡ root u) → 0 < getD start s 0 → getD start s 0 ≡ getD b s 0
-      go s (yes z) h = ap (λ k. getD start k 0) z ∙ start-root u w gate ∙ sym (sub .root-bound) ∙ ap (λ k. getD b k 0) (sym z)
-      go zero (no z) h = start-zero u w gate ∙ sym (sub .zero-bound)
-      go (suc zero) (no z) h = start-one u w gate ∙ sym (sub .one-bound)
+      go s (yes z) h = ap (λ k. getD start k 0) z ∙ start-root u w gate ∙ sym (some-coded b (root u) gate (sub .root-bound)) ∙ ap (λ k. getD b k 0) (sym z)
+      go zero (no z) h = start-zero u w gate ∙ sym (some-coded b 0 0 (sub .zero-bound))
+      go (suc zero) (no z) h = start-one u w gate ∙ sym (some-coded b 1 1 (sub .one-bound))
       go (suc (suc s)) (no z) h =
           let e : s + 2 ≡ suc (suc s) = omega arith in
           let q : getD start (suc (suc s)) 0 ≡ 0 = ap (λ k. getD start k 0) (sym e) ∙ start-else u w gate s (λ x. z (sym e ∙ x)) in
@@ -162,17 +162,17 @@ module _ (c : Circuit) (u : Rule) (w : ValidRule u) (gate mask : ℕ) (b : List 
       go zero h (no z) = n .stays 0 (omega (arith, start-zero u w gate))
       go (suc zero) h (no z) = n .stays 1 (omega (arith, start-one u w gate))
       go (suc (suc r)) h (no z) =
-          let e : r + 2 ≡ suc (suc r) = omega arith in
+          let e : hole r ≡ suc (suc r) = omega arith in
           let less : r < u .holes + length (u .lefts) - 1 = omega arith in
-          let (k, l, o) = user-of (r + 2) (u .lefts) (below-at (λ i. isUsed (i + 2) (u .lefts)) (u .holes + length (u .lefts) - 1) r (w .uses) less) in
-          rw e at (ready k (omega arith) l (r + 2) o)
+          let (k, l, o) = user-of (hole r) (u .lefts) (below-at (holeUsed u) (u .holes + length (u .lefts) - 1) r (uses-below u (w .lefts-some) ∙ w .uses) less) in
+          rw e at (ready k (omega arith) l (hole r) o)
 
-  is-found : (b′ : List ℕ) × (matchRule c u gate mask ≡ some b′) × ((r : ℕ) → r < n₀ + length (u .lefts) → getD b′ r 0 ≡ getD b r 0)
+  is-found : (b′ : List ℕ) × (matchRule c u gate mask ≡ some b′) × ((r : ℕ) → r < n₀ + length (u .lefts) → binding b′ r ≡ binding b r)
   unfolding matchRule
   is-found =
       let (d, p, n, t) = gates-found (length (u .lefts)) (le-refl _) start start-near (start-long u w gate) (omega (arith, start-root u w gate))
       (λ k lo hi r o. let z : ⊥ = omega arith in absurd z) in
-      (d, p, λ r h. n .within r (all-bound d n t r h))
+      (d, p, λ r h. ap optional (n .within r (all-bound d n t r h)))
 
 pub substitution-is-found : SubstitutionIsFound
 substitution-is-found = is-found

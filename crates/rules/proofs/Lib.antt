@@ -13,4 +13,3 @@ pub mod ValueLaws
 pub mod CodingLaws
 pub mod FindingLaws
 pub mod VerdictTheorems
-pub mod CallLaws

@@ -1,34 +1,58 @@
 -- The match as its branches and its loop run it. Assumes nothing.
 use mathlib.Core.Path.{_≡_, refl, sym, ap, _∙_}
-use mathlib.Core.Bool.{Bool, true, false}
+use mathlib.Core.Bool.{Bool, true, false, not}
 use mathlib.Core.List.{List, _∷_}
-use mathlib.Core.Option.{Option, none, some, bind}
+use mathlib.Core.Option.{Option, none, some, bind, Option·some-injective, Option·none-ne-some}
 use Prim.Native.Nat.{ℕ, zero, suc, _+_, _-_, _*_, _≤_, _<_}
 use native.Mathlib.Nat.{not-suc-le-zero}
+use native.Mathlib.Numerals.{add-one}
 use native.Mathlib.Omega.{arith}
 use lib.Dec.{eqb, leb, ltb}
 use lib.ListN.{drop, getD, set, replicate}
-use borrow.Author.Tests.{eq-eqb, ne-eqb, le-leb, lt-leb, lt-ltb, le-ltb, ltb-true}
+use borrow.Author.Tests.{eqb-true, eq-eqb, ne-eqb, le-leb, lt-leb, lt-ltb, le-ltb, ltb-true}
 use Rattle.lists.specs.First.{first}
-use Rattle.lists.proofs.Tests.{both, right-of}
+use Rattle.lists.proofs.Tests.{same-test, both, right-of}
 use Rattle.circuit.specs.Circuit.{Gate, Circuit, firstGate, references, noGate, gateAt}
-use Rattle.circuit.specs.Table.{inputs, gates, refs, gatesFrom, lineAt, gateLines, decode}
+use Rattle.circuit.specs.Table.{inputs, gates, refs, lineAt, decode}
 use Rattle.circuit.specs.Path.{isGate}
 use Rattle.circuit.proofs.TableLaws.{lines-length, refs-decode}
 use Rattle.rules.specs.Rule.{Rule, maxLeftReferences}
 use Rattle.rules.specs.RuleTable.{holesAt, leftsAt, leftFrom, ruleAt}
-use Rattle.rules.specs.Match.{boundTo, bindReference, bindOperands, matchGate, isSwapped, matchGates, matchRule, attempt}
+use Rattle.rules.specs.Match.{optional, binding, boundTo, bindAfter, bindReference, bindOperands, matchGate, isSwapped, matchGates, matchRule, attempt}
 use Rattle.rules.proofs.LineLaws.{line-of}
 
 -- ---- one reference
 
-pub bind-new : (r v : ℕ) (b : List ℕ) → getD b r 0 ≡ 0 → attempt true (set b r (v + 1)) ≡ bindReference r v b
+-- what a place holds where it is bound, as a number
+pub some-coded : (b : List ℕ) (r v : ℕ) → binding b r ≡ some v → getD b r 0 ≡ v + 1
+some-coded b r v e = go (getD b r 0) e
+  where
+    go : (x : ℕ) → optional x ≡ some v → x ≡ v + 1
+    go zero e = absurd (Option·none-ne-some v e)
+    go (suc w) e = omega (arith, Option·some-injective w v e)
+
+pub coded-some : (b : List ℕ) (r v : ℕ) → getD b r 0 ≡ v + 1 → binding b r ≡ some v
+coded-some b r v e = ap optional (e ∙ add-one v)
+
+-- by the number in its place
+pub bind-coded : (r v : ℕ) (b : List ℕ) → bindReference r v b ≡ first (eqb (getD b r 0) 0) (some (set b r (v + 1))) (first (eqb (getD b r 0) (v + 1)) (some b) none)
 unfolding bindReference
-bind-new r v b e = rw (eq-eqb (getD b r 0) 0 e)
+bind-coded r v b = go (getD b r 0)
+  where
+    go : (x : ℕ) → bindAfter r v b (optional x) ≡ first (eqb x 0) (some (set b r (v + 1))) (first (eqb x (v + 1)) (some b) none)
+    go zero = refl
+    go (suc w) =
+        rw (
+          ne-eqb (suc w) 0 (λ z. omega arith),
+          same-test (eqb (suc w) (v + 1)) (eqb w v)
+              (λ h. eq-eqb w v (omega (arith, eqb-true (suc w) (v + 1) h))) (λ h. eq-eqb (suc w) (v + 1) (omega (arith, eqb-true w v h))),
+        )
+
+pub bind-new : (r v : ℕ) (b : List ℕ) → getD b r 0 ≡ 0 → attempt true (set b r (v + 1)) ≡ bindReference r v b
+bind-new r v b e = rw (bind-coded r v b, eq-eqb (getD b r 0) 0 e)
 
 pub bind-old : (r v : ℕ) (b : List ℕ) → (getD b r 0 ≡ 0 → ⊥) → attempt (eqb (getD b r 0) (v + 1)) b ≡ bindReference r v b
-unfolding bindReference
-bind-old r v b e = rw (ne-eqb (getD b r 0) 0 e) (go (eqb (getD b r 0) (v + 1)))
+bind-old r v b e = rw (bind-coded r v b, ne-eqb (getD b r 0) 0 e) (go (eqb (getD b r 0) (v + 1)))
   where
     go : (x : Bool) → attempt x b ≡ first x (some b) none
     go true = refl
@@ -60,47 +84,55 @@ gate-high c v h = rw (le-leb (firstGate (c .inputs)) v (omega arith), le-ltb v (
 pub gate-below : (t : List ℕ) (v : ℕ) → isGate (decode t) v ≡ true → v < refs t
 gate-below t v e = omega (arith, refs-decode t, ltb-true v (references (decode t)) (right-of (leb (firstGate (inputs t)) v) (ltb v (references (decode t))) e))
 
--- gate k of a circuit's table, left gate i of a rule's
-pub gate-line : (t : List ℕ) (k : ℕ) → k < gates t → getD (gateLines t) k noGate ≡ lineAt t (gatesFrom t + 3 * k)
-gate-line t k h = line-of (gates t) (gatesFrom t) t k h
-
+-- left gate i of a rule's table
 pub left-line : (t : List ℕ) (p i : ℕ) → i < leftsAt t p → getD (ruleAt t p .lefts) i noGate ≡ lineAt t (leftFrom t p + 3 * i)
 left-line t p i h = line-of (leftsAt t p) (leftFrom t p) t i h
+
+-- 0, which stands for what is unbound too, is no gate
+pub gate-coded : (c : Circuit) (m : ℕ) (g : Gate) (swap : Bool) (b : List ℕ) → matchGate c m g swap b
+    ≡ first (not (isGate c (boundTo b m))) none
+    (first (not (eqb (gateAt c (boundTo b m) .kind) (g .kind))) none
+    (first swap (bindOperands g (gateAt c (boundTo b m) .right) (gateAt c (boundTo b m) .left) b)
+    (bindOperands g (gateAt c (boundTo b m) .left) (gateAt c (boundTo b m) .right) b)))
+unfolding matchGate bind
+gate-coded c m g swap b = go (getD b m 0)
+  where
+    part : (v : ℕ) → Option (List ℕ)
+    part v =
+        first (not (isGate c v)) none
+        (first (not (eqb (gateAt c v .kind) (g .kind))) none
+        (first swap (bindOperands g (gateAt c v .right) (gateAt c v .left) b)
+        (bindOperands g (gateAt c v .left) (gateAt c v .right) b)))
+
+    go : (x : ℕ) → bind (optional x) part ≡ part (x - 1)
+    go zero = rw (gate-low c 0 (omega arith))
+    go (suc w) = let e : suc w - 1 ≡ w = omega arith in ap part (sym e)
 
 -- where the circuit is said by the table t
 module _ (t : List ℕ) (m : ℕ) (g : Gate) (swap : Bool) (b : List ℕ) where
   -- unbound, or bound to a constant or input
   pub match-low : getD b m 0 ≤ firstGate (inputs t) → none ≡ matchGate (decode t) m g swap b
-  unfolding matchGate
-  match-low h = rw (gate-low (decode t) (boundTo b m) (omega arith))
+  match-low h = rw (gate-coded (decode t) m g swap b, gate-low (decode t) (boundTo b m) (omega arith))
 
   module _ (lo : firstGate (inputs t) < getD b m 0) where
     -- bound to what is beyond the circuit
     pub match-high : gates t ≤ getD b m 0 - 1 - firstGate (inputs t) → none ≡ matchGate (decode t) m g swap b
-    unfolding matchGate
-    match-high h = rw (gate-high (decode t) (boundTo b m) (omega (arith, refs-decode t)))
+    match-high h = rw (gate-coded (decode t) m g swap b, gate-high (decode t) (boundTo b m) (omega (arith, refs-decode t)))
 
-    -- bound to gate k, whose line says n, x, y
-    module _ (k : ℕ) (e : k ≡ getD b m 0 - 1 - firstGate (inputs t)) (hi : k < gates t) (n x y : ℕ)
-        (en : n ≡ getD t (gatesFrom t + 3 * k) 0) (ex : x ≡ getD t (gatesFrom t + 3 * k + 1) 0) (ey : y ≡ getD t (gatesFrom t + 3 * k + 2) 0) where
+    -- bound to a gate of the circuit, x
+    module _ (hi : getD b m 0 - 1 - firstGate (inputs t) < gates t) (x : Gate) (e : x ≡ getD (decode t .gates) (getD b m 0 - 1 - firstGate (inputs t)) noGate) where
       gate : isGate (decode t) (boundTo b m) ≡ true
       gate = is-gate (decode t) (boundTo b m) (omega arith) (omega (arith, refs-decode t))
 
-      line : gateAt (decode t) (boundTo b m) ≡ lineAt t (gatesFrom t + 3 * k)
-      line = ap (λ i. getD (gateLines t) i noGate) (sym e) ∙ gate-line t k hi
+      pub match-kind : eqb (x .kind) (g .kind) ≡ false → none ≡ matchGate (decode t) m g swap b
+      match-kind d = rw (gate-coded (decode t) m g swap b, gate, ← e, d)
 
-      pub match-kind : eqb n (g .kind) ≡ false → none ≡ matchGate (decode t) m g swap b
-      unfolding matchGate
-      match-kind d = rw (gate, line, ← en, d)
+      module _ (d : eqb (x .kind) (g .kind) ≡ true) where
+        pub match-cross : swap ≡ true → bindOperands g (x .right) (x .left) b ≡ matchGate (decode t) m g swap b
+        match-cross s = rw (gate-coded (decode t) m g swap b, gate, ← e, d, s)
 
-      module _ (d : eqb n (g .kind) ≡ true) where
-        pub match-cross : swap ≡ true → bindOperands g y x b ≡ matchGate (decode t) m g swap b
-        unfolding matchGate
-        match-cross s = rw (gate, line, ← en, d, s, ex, ey)
-
-        pub match-plain : swap ≡ false → bindOperands g x y b ≡ matchGate (decode t) m g swap b
-        unfolding matchGate
-        match-plain s = rw (gate, line, ← en, d, s, ex, ey)
+        pub match-plain : swap ≡ false → bindOperands g (x .left) (x .right) b ≡ matchGate (decode t) m g swap b
+        match-plain s = rw (gate-coded (decode t) m g swap b, gate, ← e, d, s)
 
 -- ---- the loop, from the last left gate to the first, with i of them left
 

@@ -1,5 +1,5 @@
 -- The bindings of a match are a substitution, and its holes stand for references below the site's gate. Assumes nothing.
-use mathlib.Core.Path.{_≡_, refl, ap, _∙_, subst}
+use mathlib.Core.Path.{_≡_, refl, sym, ap, _∙_, subst}
 use mathlib.Core.Logic.{_≢_}
 use mathlib.Core.Bool.{Bool, true, false, not, _||_}
 use mathlib.Core.List.{List, [], _∷_}
@@ -13,6 +13,7 @@ use lib.ListN.{length, getD, set, replicate, length-set}
 use lib.Seq.{getD-set-same, getD-set-other}
 use borrow.Author.Tests.{eqb-true, leb-true, ltb-true, eq-eqb, ne-eqb}
 use Rattle.lists.specs.First.{first}
+use Rattle.lists.specs.Below.{allBelow}
 use Rattle.lists.proofs.Tests.{left-of, right-of}
 use Rattle.lists.proofs.First.{first-false, first-either}
 use Rattle.lists.proofs.Below.{below-at}
@@ -21,11 +22,13 @@ use Rattle.circuit.specs.Valuation.{Ordered}
 use Rattle.circuit.specs.Path.{isGate, isOperand, isUsed}
 use Rattle.circuit.proofs.EachLaws.{each-at}
 use Rattle.circuit.proofs.PassLaws.{zeros-at}
-use Rattle.rules.specs.Rule.{Rule, root, maxLeftReferences}
+use Rattle.rules.specs.Rule.{Rule, hole, root, maxLeftReferences}
+use Rattle.rules.specs.RuleRefusal.{holeUsed}
 use Rattle.rules.specs.WellFormed.{ValidRule}
-use Rattle.rules.specs.Match.{boundTo, bindReference, bindOperands, matchGate, isSwapped, matchGates, startBindings, matchRule}
+use Rattle.rules.specs.Match.{optional, boundTo, bindReference, bindOperands, matchGate, isSwapped, matchGates, startBindings, matchRule}
 use Rattle.rules.specs.Substitution.{BoundGate, Substitution}
 use Rattle.rules.specs.Theorems.{MatchGivesSubstitution}
+use Rattle.rules.proofs.MatchLaws.{some-coded, coded-some, bind-coded, gate-coded}
 
 -- ---- what a run of the match keeps; place s holds at most cap s
 
@@ -67,15 +70,17 @@ module _ (cap : ℕ → ℕ) where
       other s k z = let y : 0 < getD b r 0 = rw z at k in omega arith
 
   reference-sound : (r v : ℕ) (b b′ : List ℕ) → bindReference r v b ≡ some b′ → r < length b → v < cap r → Extends b b′ × (getD b′ r 0 ≡ v + 1)
-  unfolding bindReference
   reference-sound r v b b′ e h l = go (eqb (getD b r 0) 0) refl (eqb (getD b r 0) (v + 1)) refl
     where
+      coded : first (eqb (getD b r 0) 0) (some (set b r (v + 1))) (first (eqb (getD b r 0) (v + 1)) (some b) none) ≡ some b′
+      coded = sym (bind-coded r v b) ∙ e
+
       go : (p : Bool) → eqb (getD b r 0) 0 ≡ p → (q : Bool) → eqb (getD b r 0) (v + 1) ≡ q → Extends b b′ × (getD b′ r 0 ≡ v + 1)
       go true x q y =
-          subst (λ z. Extends b z × (getD z r 0 ≡ v + 1)) (Option·some-injective _ _ (rw x at e)) (put r v b (eqb-true _ _ x) h l)
+          subst (λ z. Extends b z × (getD z r 0 ≡ v + 1)) (Option·some-injective _ _ (rw x at coded)) (put r v b (eqb-true _ _ x) h l)
       go false x true y =
-          subst (λ z. Extends b z × (getD z r 0 ≡ v + 1)) (Option·some-injective _ _ (rw (x, y) at e)) (extends-refl b, eqb-true _ _ y)
-      go false x false y = absurd (Option·none-ne-some b′ (rw (x, y) at e))
+          subst (λ z. Extends b z × (getD z r 0 ≡ v + 1)) (Option·some-injective _ _ (rw (x, y) at coded)) (extends-refl b, eqb-true _ _ y)
+      go false x false y = absurd (Option·none-ne-some b′ (rw (x, y) at coded))
 
   operands-sound : (g : Gate) (x y : ℕ) (b b′ : List ℕ) → bindOperands g x y b ≡ some b′ → g .left < length b → g .right < length b
       → x < cap (g .left) → y < cap (g .right) → Extends b b′ × (getD b′ (g .left) 0 ≡ x + 1) × (getD b′ (g .right) 0 ≡ y + 1)
@@ -86,25 +91,35 @@ module _ (cap : ℕ → ℕ) where
       let t = reference-sound (g .right) y b₁ b′ q (omega (arith, s .0 .long)) cr in
       (extends-trans b b₁ b′ (s .0) (t .0), t .0 .stays (g .left) (omega (arith, s .1)) ∙ s .1, t .1)
 
+-- what the places of a bound gate and its operands hold, as numbers
+module _ (c : Circuit) (b : List ℕ) (m : ℕ) (g : Gate) (swap : Bool) (f : BoundGate c b m g swap) where
+  pub bound-coded : getD b m 0 ≡ boundTo b m + 1
+  bound-coded = some-coded b m (boundTo b m) (f .bound)
+
+  pub left-coded : getD b (g .left) 0 ≡ first swap (gateAt c (boundTo b m) .right) (gateAt c (boundTo b m) .left) + 1
+  left-coded = some-coded b (g .left) (first swap (gateAt c (boundTo b m) .right) (gateAt c (boundTo b m) .left)) (f .left)
+
+  pub right-coded : getD b (g .right) 0 ≡ first swap (gateAt c (boundTo b m) .left) (gateAt c (boundTo b m) .right) + 1
+  right-coded = some-coded b (g .right) (first swap (gateAt c (boundTo b m) .left) (gateAt c (boundTo b m) .right)) (f .right)
+
 -- a bound gate stays one
 bound-extends : (cap : ℕ → ℕ) (c : Circuit) (b b′ : List ℕ) (m : ℕ) (g : Gate) (swap : Bool) → Extends cap b b′ → BoundGate c b m g swap → BoundGate c b′ m g swap
 bound-extends cap c b b′ m g swap x f =
-    let e : getD b′ m 0 ≡ getD b m 0 = x .stays m (omega (arith, f .bound)) in
+    let e : getD b′ m 0 ≡ getD b m 0 = x .stays m (omega (arith, bound-coded c b m g swap f)) in
     let k : boundTo b m ≡ boundTo b′ m = omega arith in
     record {
-      bound = rw (← k) (e ∙ f .bound);
+      bound = rw (← k) (ap optional e ∙ f .bound);
       is-gate = rw (← k) (f .is-gate);
       kind = rw (← k) (f .kind);
-      left = rw (← k) (x .stays (g .left) (omega (arith, f .left)) ∙ f .left);
-      right = rw (← k) (x .stays (g .right) (omega (arith, f .right)) ∙ f .right);
+      left = rw (← k) (ap optional (x .stays (g .left) (omega (arith, left-coded c b m g swap f))) ∙ f .left);
+      right = rw (← k) (ap optional (x .stays (g .right) (omega (arith, right-coded c b m g swap f))) ∙ f .right);
     }
 
 -- the tests of one left gate's part, where it succeeds
 gate-tests : (c : Circuit) (m : ℕ) (g : Gate) (swap : Bool) (b b′ : List ℕ) → matchGate c m g swap b ≡ some b′
     → (isGate c (boundTo b m) ≡ true) × (gateAt c (boundTo b m) .kind ≡ g .kind)
     × (bindOperands g (first swap (gateAt c (boundTo b m) .right) (gateAt c (boundTo b m) .left)) (first swap (gateAt c (boundTo b m) .left) (gateAt c (boundTo b m) .right)) b ≡ some b′)
-unfolding matchGate
-gate-tests c m g swap b b′ e = go (isGate c (boundTo b m)) refl (eqb (gateAt c (boundTo b m) .kind) (g .kind)) refl swap e
+gate-tests c m g swap b b′ e = go (isGate c (boundTo b m)) refl (eqb (gateAt c (boundTo b m) .kind) (g .kind)) refl swap (sym (gate-coded c m g swap b) ∙ e)
   where
     h : Gate
     h = gateAt c (boundTo b m)
@@ -151,11 +166,11 @@ module _ (c : Circuit) (ok : Ordered (firstGate (c .inputs)) (c .gates)) (cap : 
       let up : getD b m 0 ≡ boundTo b m + 1 = omega arith in (
         s .0,
         record {
-          bound = rw (← k) (q ∙ up);
+          bound = rw (← k) (coded-some b′ m (boundTo b m) (q ∙ up));
           is-gate = rw (← k) (t .0);
           kind = rw (← k) (t .1);
-          left = rw (← k) (s .1);
-          right = rw (← k) (s .2);
+          left = rw (← k) (coded-some b′ (g .left) (first swap (h .right) (h .left)) (s .1));
+          right = rw (← k) (coded-some b′ (g .right) (first swap (h .left) (h .right)) (s .2));
         },
       )
 
@@ -200,8 +215,8 @@ operand-bound : (c : Circuit) (b : List ℕ) (m : ℕ) (g : Gate) (swap : Bool) 
 operand-bound c b m g swap f r h = go (eqb r (g .left)) refl h
   where
     go : (x : Bool) → eqb r (g .left) ≡ x → (x || eqb r (g .right)) ≡ true → 0 < getD b r 0
-    go true e h = rw (eqb-true r (g .left) e) (omega (arith, f .left))
-    go false e h = rw (eqb-true r (g .right) h) (omega (arith, f .right))
+    go true e h = rw (eqb-true r (g .left) e) (omega (arith, left-coded c b m g swap f))
+    go false e h = rw (eqb-true r (g .right) h) (omega (arith, right-coded c b m g swap f))
 
 -- the last of i left gates is bound to a gate
 root-gate : (c : Circuit) (u : Rule) (mask i : ℕ) (b b′ : List ℕ) → 0 < i → matchGates c u mask i b ≡ some b′ → isGate c (boundTo b (firstGate (u .holes) + (i - 1))) ≡ true
@@ -303,21 +318,21 @@ module _ (c : Circuit) (ok : Ordered (firstGate (c .inputs)) (c .gates)) (u : Ru
       let k : cap r ≡ gate = first-false (gate + 1) gate (ne-eqb r (root u) n) in
       omega (arith, run .0 .low start-low r, gate-from c gate matched-gate)
 
-  hole-at : (j : ℕ) → j < u .holes → 0 < getD b (j + 2) 0
+  hole-at : (j : ℕ) → j < u .holes → 0 < getD b (hole j) 0
   hole-at j h =
-      let (i, l, k) = user-of (j + 2) (u .lefts)
-      (below-at (λ i. isUsed (i + 2) (u .lefts)) (u .holes + length (u .lefts) - 1) j (w .uses) (omega (arith, w .lefts-some))) in
-      operand-bound c b (firstGate (u .holes) + i) (getD (u .lefts) i noGate) (isSwapped mask i) (run .1 i l) (j + 2) k
+      let (i, l, k) = user-of (hole j) (u .lefts)
+      (below-at (holeUsed u) (u .holes) j (left-of (allBelow (holeUsed u) (u .holes)) _ (w .uses)) h) in
+      operand-bound c b (firstGate (u .holes) + i) (getD (u .lefts) i noGate) (isSwapped mask i) (run .1 i l) (hole j) k
 
   substitution : Substitution c u gate mask b
   substitution =
       record {
         long = run .0 .long ∙ start-long u w gate;
-        zero-bound = kept 0 1 (start-zero u w gate) (omega arith);
-        one-bound = kept 1 2 (start-one u w gate) (omega arith);
-        root-bound = kept (root u) (gate + 1) (start-root u w gate) (omega arith);
+        zero-bound = coded-some b 0 0 (kept 0 1 (start-zero u w gate) (omega arith));
+        one-bound = coded-some b 1 1 (kept 1 2 (start-one u w gate) (omega arith));
+        root-bound = coded-some b (root u) gate (kept (root u) (gate + 1) (start-root u w gate) (omega arith));
         gates-bound = run .1;
-        holes-bound = hole-at;
+        holes-bound = λ j h. let k = hole-at j h in coded-some b (hole j) (boundTo b (hole j)) (omega arith);
         below-gate = low-at;
       }
 

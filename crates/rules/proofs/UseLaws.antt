@@ -8,12 +8,15 @@ use native.Mathlib.Omega.{arith}
 use lib.Dec.{ltb}
 use lib.ListN.{length, drop, drop-of-length-le}
 use borrow.Author.Tests.{ltb-true, ne-eqb}
-use Rattle.lists.proofs.Tests.{left-of, right-of}
+use Rattle.lists.specs.Below.{allBelow}
+use Rattle.lists.proofs.Tests.{same-test, both, left-of, right-of}
 use Rattle.lists.proofs.Below.{below-at, below-of}
-use Rattle.circuit.specs.Circuit.{Gate, firstGate}
+use Rattle.circuit.specs.Circuit.{Gate, constants, firstGate}
 use Rattle.circuit.specs.Each.{allGates}
 use Rattle.circuit.specs.Path.{isOperand, isUsed}
 use Rattle.circuit.specs.Refusal.{operandsBelow}
+use Rattle.rules.specs.Rule.{Rule}
+use Rattle.rules.specs.RuleRefusal.{holeUsed, leftUsed, usesOk}
 use Rattle.rules.specs.Theorems.{UseIsLater}
 
 -- A loop that looks for a user of r and has come to gate i: it is none, it is one, or there is none.
@@ -47,23 +50,38 @@ used-later m (g ∷ gs) h (suc i) r l =
     let e : isOperand r g ≡ false = not-used m r g o (omega arith) in
     used-later (suc m) gs (right-of (operandsBelow m g) (allGates operandsBelow (suc m) gs) h) i r (omega arith) ∙ sym (ap (λ b. b || isUsed r gs) e)
 
+-- the references from 2 up to the root are the holes, then the left gates but the last
+pub uses-below : (u : Rule) → 1 ≤ length (u .lefts) → allBelow (holeUsed u) (u .holes + length (u .lefts) - 1) ≡ usesOk u
+uses-below u some =
+    same-test _ _
+    (λ h. both {a = allBelow (holeUsed u) (u .holes)}
+    (below-of (holeUsed u) (u .holes) (λ j l. below-at (holeUsed u) n j h (omega arith)))
+    (below-of (leftUsed u) (length (u .lefts) - 1) (λ i l. sym (same i) ∙ below-at (holeUsed u) n (u .holes + i) h (omega arith))))
+    (λ h. below-of (holeUsed u) n (λ i l.
+    elim (decLt i (u .holes)) [
+      | yes k ↦ below-at (holeUsed u) (u .holes) i (left-of (allBelow (holeUsed u) (u .holes)) _ h) k
+      | no k ↦
+          let e : i ≡ u .holes + (i - u .holes) = omega arith in
+          ap (holeUsed u) e ∙ same (i - u .holes)
+          ∙ below-at (leftUsed u) (length (u .lefts) - 1) (i - u .holes) (right-of (allBelow (holeUsed u) (u .holes)) _ h) (omega arith)
+    ]))
+  where
+    n : ℕ
+    n = u .holes + length (u .lefts) - 1
+
+    same : (i : ℕ) → holeUsed u (u .holes + i) ≡ leftUsed u i
+    same i = let e : u .holes + i + constants ≡ firstGate (u .holes) + i = omega arith in ap (λ r. isUsed r (u .lefts)) e
+
 pub use-is-later : UseIsLater
 use-is-later u some ok = (
   λ h. (
-    λ j l. below-at (λ i. isUsed (i + 2) (u .lefts)) (u .holes + length (u .lefts) - 1) j h (omega arith),
-    λ i l.
-        let e : u .holes + i + 2 ≡ firstGate (u .holes) + i = omega arith in
-        later i ∙ ap (λ r. isUsed r (u .lefts)) (sym e) ∙ below-at (λ i. isUsed (i + 2) (u .lefts)) (u .holes + length (u .lefts) - 1) (u .holes + i) h (omega arith),
+    λ j l. below-at (holeUsed u) (u .holes) j (left-of (allBelow (holeUsed u) (u .holes)) _ h) l,
+    λ i l. later i ∙ below-at (leftUsed u) (length (u .lefts) - 1) i (right-of (allBelow (holeUsed u) (u .holes)) _ h) (omega arith),
   ),
-  λ p. below-of (λ i. isUsed (i + 2) (u .lefts)) (u .holes + length (u .lefts) - 1) (λ i l.
-      elim (decLt i (u .holes)) [
-        | yes k ↦ p .0 i k
-        | no k ↦
-            let e : i + 2 ≡ firstGate (u .holes) + (i - u .holes) = omega arith in
-            ap (λ r. isUsed r (u .lefts)) e ∙ sym (later (i - u .holes)) ∙ p .1 (i - u .holes) (omega arith)
-      ]),
+  λ p. both {a = allBelow (holeUsed u) (u .holes)} (below-of (holeUsed u) (u .holes) (p .0))
+      (below-of (leftUsed u) (length (u .lefts) - 1) (λ i l. sym (later i) ∙ p .1 i (omega arith))),
 )
   where
-    later : (i : ℕ) → isUsed (firstGate (u .holes) + i) (drop (i + 1) (u .lefts)) ≡ isUsed (firstGate (u .holes) + i) (u .lefts)
+    later : (i : ℕ) → isUsed (firstGate (u .holes) + i) (drop (i + 1) (u .lefts)) ≡ leftUsed u i
     later i =
         used-later (firstGate (u .holes)) (u .lefts) (left-of (allGates operandsBelow (firstGate (u .holes)) (u .lefts)) _ ok) (i + 1) (firstGate (u .holes) + i) (omega arith)

@@ -10,15 +10,15 @@ use lib.Dec.{eqb}
 use lib.ListN.{length, drop, set, replicate}
 use borrow.Author.Tests.{eq-eqb, ne-eqb, lt-ltb, le-ltb}
 use Rattle.lists.specs.First.{first}
-use Rattle.lists.proofs.First.{first-true, first-false}
-use Rattle.circuit.specs.Circuit.{Circuit, firstGate, references}
+use Rattle.lists.proofs.First.{first-true, first-false, first-either}
+use Rattle.circuit.specs.Circuit.{Circuit, constants, firstGate, references}
 use Rattle.circuit.specs.Path.{isGate}
 use Rattle.rules.specs.declared.ReferenceKind.the-variants.{Constant, Input, Gate, Beyond}
 use Rattle.rules.specs.Rule.{Rule, maxLeftReferences}
 use Rattle.rules.specs.RuleTable.{holesAt, leftsAt, leftFrom, ruleAt, placeOf, ruleOf}
 use Rattle.rules.specs.Soundness.{isSound}
 use Rattle.rules.specs.Match.{matchGates, matchRule, attempt}
-use Rattle.rules.specs.Verdict.{hasRule, judgement, kindOf, kindVerdict, failing, found, matchAt, matchSite}
+use Rattle.rules.specs.Verdict.{passes, noRule, notSound, notAGate, noMatch, hasRule, judgement, kindOf, kindVerdict, failing, verdictBy, matchAt, matchSite, matchJudged}
 use Rattle.rules.specs.Theorems.{KindAsksForGate}
 use Rattle.circuit.proofs.TableLaws.{lines-length}
 use Rattle.rules.proofs.MatchLaws.{is-gate, gate-low, gate-high, match-start}
@@ -26,7 +26,7 @@ use Rattle.rules.proofs.MatchLaws.{is-gate, gate-low, gate-high, match-
 -- ---- what a reference is
 
 module _ (c : Circuit) (v : ℕ) where
-  pub kind-constant : v < 2 → Constant ≡ kindOf c v
+  pub kind-constant : v < constants → Constant ≡ kindOf c v
   unfolding kindOf
   kind-constant h = rw (lt-ltb v 2 h)
 
@@ -42,17 +42,17 @@ module _ (c : Circuit) (v : ℕ) where
   unfolding kindOf
   kind-beyond h = rw (le-ltb v 2 (omega arith), le-ltb v (firstGate (c .inputs)) (omega arith), le-ltb v (references c) h)
 
-  kind-verdict : kindVerdict (kindOf c v) ≡ first (not (isGate c v)) 3 0
+  kind-verdict : kindVerdict (kindOf c v) ≡ first (not (isGate c v)) notAGate passes
   kind-verdict =
       elim (decLt v (firstGate (c .inputs))) [
-        | yes h ↦ low h ∙ sym (first-true 3 0 (ap not (gate-low c v h)))
+        | yes h ↦ low h ∙ sym (first-true notAGate passes (ap not (gate-low c v h)))
         | no h ↦ elim (decLt v (references c)) [
-          | yes k ↦ ap kindVerdict (sym (kind-gate (omega arith) k)) ∙ sym (first-false 3 0 (ap not (is-gate c v (omega arith) k)))
-          | no k ↦ ap kindVerdict (sym (kind-beyond (omega arith))) ∙ sym (first-true 3 0 (ap not (gate-high c v (omega arith))))
+          | yes k ↦ ap kindVerdict (sym (kind-gate (omega arith) k)) ∙ sym (first-false notAGate passes (ap not (is-gate c v (omega arith) k)))
+          | no k ↦ ap kindVerdict (sym (kind-beyond (omega arith))) ∙ sym (first-true notAGate passes (ap not (gate-high c v (omega arith))))
         ]
       ]
     where
-      low : v < firstGate (c .inputs) → kindVerdict (kindOf c v) ≡ 3
+      low : v < firstGate (c .inputs) → kindVerdict (kindOf c v) ≡ notAGate
       low h =
           elim (decLt v 2) [
             | yes k ↦ ap kindVerdict (sym (kind-constant k))
@@ -64,64 +64,73 @@ kind-asks-for-gate c v = kind-verdict c v
 
 -- ---- the verdict so far, j, and behind it that of the reference
 
-module _ (c : Circuit) (u : Rule) (gate mask j v : ℕ) (e : v ≡ first (eqb j 0) (kindVerdict (kindOf c gate)) j) where
-  so-far : eqb j 0 ≡ false → v ≡ j
+module _ (c : Circuit) (u : Rule) (gate mask j v : ℕ) (e : v ≡ first (eqb j passes) (kindVerdict (kindOf c gate)) j) where
+  so-far : eqb j passes ≡ false → v ≡ j
   so-far h = e ∙ first-false (kindVerdict (kindOf c gate)) j h
 
-  of-kind : eqb j 0 ≡ true → v ≡ first (not (isGate c gate)) 3 0
+  of-kind : eqb j passes ≡ true → v ≡ first (not (isGate c gate)) notAGate passes
   of-kind h = e ∙ (first-true (kindVerdict (kindOf c gate)) j h ∙ kind-asks-for-gate c gate)
 
-  -- none of them applies
-  pub none-before : v ≡ 0 → eqb j 0 ≡ true
-  none-before z = go (eqb j 0) refl
-    where
-      go : (b : Bool) → eqb j 0 ≡ b → eqb j 0 ≡ true
-      go true h = h
-      go false h = eq-eqb j 0 (sym (so-far h) ∙ z)
+  pub so-far-small : j ≤ notSound → v ≤ notAGate
+  so-far-small h =
+      rw e
+      (first-either (λ x. x ≤ notAGate) (eqb j passes)
+      (rw (kind-asks-for-gate c gate) (first-either (λ x. x ≤ notAGate) (not (isGate c gate)) (omega arith) (omega arith))) (omega arith))
 
-  pub at-gate : v ≡ 0 → isGate c gate ≡ true
+  -- none of them applies
+  pub none-before : v ≡ passes → eqb j passes ≡ true
+  none-before z = go (eqb j passes) refl
+    where
+      go : (b : Bool) → eqb j passes ≡ b → eqb j passes ≡ true
+      go true h = h
+      go false h = eq-eqb j passes (sym (so-far h) ∙ z)
+
+  pub at-gate : v ≡ passes → isGate c gate ≡ true
   at-gate z = go (isGate c gate) refl
     where
       go : (b : Bool) → isGate c gate ≡ b → isGate c gate ≡ true
       go true k = k
       go false k =
-          let three : v ≡ 3 = of-kind (none-before z) ∙ first-true 3 0 (ap not k) in
+          let three : v ≡ notAGate = of-kind (none-before z) ∙ first-true notAGate passes (ap not k) in
           let no-way : ⊥ = omega arith in
           absurd no-way
 
-  pub judged-at : v ≡ 0 → matchAt c u gate mask ≡ first (not (eqb j 0)) (failing j) (first (not (isGate c gate)) (failing 3) (matchAt c u gate mask))
+  pub judged-at : v ≡ passes → matchAt c u gate mask ≡ matchJudged c u j gate mask
   judged-at z = rw (none-before z, at-gate z)
 
   -- one of them applies
-  pub judged-failing : (v ≡ 0 → ⊥) → failing v ≡ first (not (eqb j 0)) (failing j) (first (not (isGate c gate)) (failing 3) (matchAt c u gate mask))
-  judged-failing n = go (eqb j 0) refl (isGate c gate) refl
+  pub judged-failing : (v ≡ passes → ⊥) → failing v ≡ matchJudged c u j gate mask
+  judged-failing n = go (eqb j passes) refl (isGate c gate) refl
     where
-      go : (a : Bool) → eqb j 0 ≡ a → (b : Bool) → isGate c gate ≡ b
-          → failing v ≡ first (not (eqb j 0)) (failing j) (first (not (isGate c gate)) (failing 3) (matchAt c u gate mask))
+      go : (a : Bool) → eqb j passes ≡ a → (b : Bool) → isGate c gate ≡ b
+          → failing v ≡ matchJudged c u j gate mask
       go false h b k = rw h (ap failing (so-far h))
-      go true h true k = absurd (n (of-kind h ∙ first-false 3 0 (ap not k)))
-      go true h false k = rw (h, k) (ap failing (of-kind h ∙ first-true 3 0 (ap not k)))
+      go true h true k = absurd (n (of-kind h ∙ first-false notAGate passes (ap not k)))
+      go true h false k = rw (h, k) (ap failing (of-kind h ∙ first-true notAGate passes (ap not k)))
 
 -- ---- the judge
 
 module _ (t : List ℕ) (rule : ℕ) where
-  pub judged-missing : hasRule t rule ≡ false → 1 ≡ judgement t rule
+  pub judged-missing : hasRule t rule ≡ false → noRule ≡ judgement t rule
   unfolding judgement
   judged-missing h = rw h
 
   -- p is where the rule begins
-  pub judged-there : hasRule t rule ≡ true → (p : ℕ) → p ≡ placeOf t rule → first (not (isSound (ruleAt t p))) 2 0 ≡ judgement t rule
+  pub judged-there : hasRule t rule ≡ true → (p : ℕ) → p ≡ placeOf t rule → first (not (isSound (ruleAt t p))) notSound passes ≡ judgement t rule
   unfolding judgement
   judged-there h p e = rw (h, e)
+
+pub soundness-small : (u : Rule) (j : ℕ) → j ≡ first (not (isSound u)) notSound passes → j ≤ notSound
+soundness-small u j e = rw e (first-either (λ x. x ≤ notSound) (not (isSound u)) (omega arith) (omega arith))
 
 -- ---- the match
 
 module _ (c : Circuit) (u : Rule) (gate mask : ℕ) where
-  beyond : (mask / 2 ^ length (u .lefts) ≡ 0 → ⊥) → failing 4 ≡ matchAt c u gate mask
+  beyond : (mask / 2 ^ length (u .lefts) ≡ 0 → ⊥) → failing noMatch ≡ matchAt c u gate mask
   unfolding matchAt
   beyond h = rw (ne-eqb (mask / 2 ^ length (u .lefts)) 0 h)
 
-  pub mask-within : mask / 2 ^ length (u .lefts) ≡ 0 → found (matchRule c u gate mask) ≡ matchAt c u gate mask
+  pub mask-within : mask / 2 ^ length (u .lefts) ≡ 0 → verdictBy (matchRule c u gate mask) ≡ matchAt c u gate mask
   unfolding matchAt
   mask-within h = rw (eq-eqb (mask / 2 ^ length (u .lefts)) 0 h)
 
@@ -130,22 +139,22 @@ module _ (c : Circuit) (t : List ℕ) (p gate mask : ℕ) where
   count : length (ruleAt t p .lefts) ≡ leftsAt t p
   count = lines-length (leftsAt t p) (drop (leftFrom t p) t)
 
-  pub at-beyond : (mask / 2 ^ leftsAt t p ≡ 0 → ⊥) → failing 4 ≡ matchAt c (ruleAt t p) gate mask
+  pub at-beyond : (mask / 2 ^ leftsAt t p ≡ 0 → ⊥) → failing noMatch ≡ matchAt c (ruleAt t p) gate mask
   at-beyond h = beyond c (ruleAt t p) gate mask (λ e. h (ap (λ k. mask / 2 ^ k) (sym count) ∙ e))
 
   module _ (x : Bool) (b : List ℕ) (h : mask / 2 ^ leftsAt t p ≡ 0)
       (e : attempt x b ≡ matchGates c (ruleAt t p) mask (leftsAt t p) (set (1 ∷ 2 ∷ replicate (maxLeftReferences - 2) 0) (firstGate (holesAt t p) + leftsAt t p - 1) (gate + 1))) where
-    at-found : found (attempt x b) ≡ matchAt c (ruleAt t p) gate mask
-    at-found = ap found (e ∙ match-start c t p gate mask) ∙ mask-within c (ruleAt t p) gate mask (ap (λ k. mask / 2 ^ k) count ∙ h)
+    at-found : verdictBy (attempt x b) ≡ matchAt c (ruleAt t p) gate mask
+    at-found = ap verdictBy (e ∙ match-start c t p gate mask) ∙ mask-within c (ruleAt t p) gate mask (ap (λ k. mask / 2 ^ k) count ∙ h)
 
-    pub at-some : x ≡ true → found (some b) ≡ matchAt c (ruleAt t p) gate mask
-    at-some q = ap (λ y. found (attempt y b)) (sym q) ∙ at-found
+    pub at-some : x ≡ true → verdictBy (some b) ≡ matchAt c (ruleAt t p) gate mask
+    at-some q = ap (λ y. verdictBy (attempt y b)) (sym q) ∙ at-found
 
-    pub at-none : x ≡ false → failing 4 ≡ matchAt c (ruleAt t p) gate mask
-    at-none q = ap (λ y. found (attempt y b)) (sym q) ∙ at-found
+    pub at-none : x ≡ false → failing noMatch ≡ matchAt c (ruleAt t p) gate mask
+    at-none q = ap (λ y. verdictBy (attempt y b)) (sym q) ∙ at-found
 
 module _ (c : Circuit) (t : List ℕ) (rule gate mask : ℕ) where
-  pub site-missing : hasRule t rule ≡ false → failing 1 ≡ matchSite c t rule gate mask
+  pub site-missing : hasRule t rule ≡ false → failing noRule ≡ matchSite c t rule gate mask
   unfolding matchSite
   site-missing h = rw h
 
@@ -154,13 +163,13 @@ module _ (c : Circuit) (t : List ℕ) (rule gate mask : ℕ) where
   site-at h k g = rw (h, k, g)
 
   -- p is where the rule begins, and j the judge's verdict
-  pub site-there : hasRule t rule ≡ true → (p : ℕ) → p ≡ placeOf t rule → (j : ℕ) → j ≡ first (not (isSound (ruleAt t p))) 2 0
-      → first (not (eqb j 0)) (failing j) (first (not (isGate c gate)) (failing 3) (matchAt c (ruleAt t p) gate mask)) ≡ matchSite c t rule gate mask
+  pub site-there : hasRule t rule ≡ true → (p : ℕ) → p ≡ placeOf t rule → (j : ℕ) → j ≡ first (not (isSound (ruleAt t p))) notSound passes
+      → matchJudged c (ruleAt t p) j gate mask ≡ matchSite c t rule gate mask
   unfolding matchSite
   site-there h p e j f = rw (h, f, e) (go (isSound (ruleOf t rule)))
     where
       go : (b : Bool)
-          → first (not (eqb (first (not b) 2 0) 0)) (failing (first (not b) 2 0)) (first (not (isGate c gate)) (failing 3) (matchAt c (ruleOf t rule) gate mask))
-          ≡ first (not b) (failing 2) (first (not (isGate c gate)) (failing 3) (matchAt c (ruleOf t rule) gate mask))
+          → matchJudged c (ruleOf t rule) (first (not b) notSound passes) gate mask
+          ≡ first (not b) (failing notSound) (first (not (isGate c gate)) (failing notAGate) (matchAt c (ruleOf t rule) gate mask))
       go true = refl
       go false = refl

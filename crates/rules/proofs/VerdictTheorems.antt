@@ -23,7 +23,7 @@ use Rattle.rules.specs.Rule.{Rule}
 use Rattle.rules.specs.RuleTable.{ruleOf}
 use Rattle.rules.specs.Soundness.{isSound}
 use Rattle.rules.specs.Match.{boundTo, matchRule}
-use Rattle.rules.specs.Verdict.{hasRule, judgement, failing, found, matchAt, matchSite}
+use Rattle.rules.specs.Verdict.{passes, notSound, noMatch, hasRule, judgement, failing, verdictBy, matchAt, matchSite}
 use Rattle.rules.specs.Theorems.{BoundGatesAreLive, ZeroIsMatch, MatchIsZero, VerdictsAreSmall}
 use Rattle.rules.proofs.RefusalLaws.{each-rule-is-well-formed}
 use Rattle.rules.proofs.SubstitutionLaws.{gate-from, gate-to, match-gives-substitution}
@@ -44,26 +44,26 @@ bound-gates-are-live t w u gate mask b s i h =
 -- ---- what a verdict 0 says
 
 -- a chain of verdicts that gives 0: its first test doesn't apply
-passed : (b : Bool) (n : ℕ) (m : SiteMatch) → first b (failing (suc n)) m .verdict ≡ 0 → (b ≡ false) × (first b (failing (suc n)) m ≡ m)
+passed : (b : Bool) (n : ℕ) (m : SiteMatch) → first b (failing (suc n)) m .verdict ≡ passes → (b ≡ false) × (first b (failing (suc n)) m ≡ m)
 passed true n m e = let z : ⊥ = omega arith in absurd z
 passed false n m e = (refl, refl)
 
 -- what was found
-found-zero : (o : Option (List ℕ)) → found o .verdict ≡ 0 → o ≡ some (found o .bindings)
+found-zero : (o : Option (List ℕ)) → verdictBy o .verdict ≡ passes → o ≡ some (verdictBy o .bindings)
 found-zero none e = let z : ⊥ = omega arith in absurd z
 found-zero (some b) e = refl
 
 module _ (c : Circuit) (u : Rule) (gate mask : ℕ) where
-  at-zero : matchAt c u gate mask .verdict ≡ 0 → (mask / 2 ^ length (u .lefts) ≡ 0) × (matchRule c u gate mask ≡ some (matchAt c u gate mask .bindings))
+  at-zero : matchAt c u gate mask .verdict ≡ passes → (mask / 2 ^ length (u .lefts) ≡ 0) × (matchRule c u gate mask ≡ some (matchAt c u gate mask .bindings))
   unfolding matchAt
   at-zero e =
-      let p = passed (not (eqb (mask / 2 ^ length (u .lefts)) 0)) 3 (found (matchRule c u gate mask)) e in (
+      let p = passed (not (eqb (mask / 2 ^ length (u .lefts)) 0)) 3 (verdictBy (matchRule c u gate mask)) e in (
         eqb-true _ _ (not-false _ (p .0)),
         found-zero (matchRule c u gate mask) (ap (λ (m : SiteMatch). m .verdict) (sym (p .1)) ∙ e) ∙ ap (λ (m : SiteMatch). some (m .bindings)) (sym (p .1)),
       )
 
 module _ (c : Circuit) (t : List ℕ) (rule gate mask : ℕ) where
-  pub site-zero : matchSite c t rule gate mask .verdict ≡ 0
+  pub site-zero : matchSite c t rule gate mask .verdict ≡ passes
       → (hasRule t rule ≡ true) × (isSound (ruleOf t rule) ≡ true) × (isGate c gate ≡ true) × (matchSite c t rule gate mask ≡ matchAt c (ruleOf t rule) gate mask)
   unfolding matchSite
   site-zero e =
@@ -86,18 +86,18 @@ pub match-is-zero : MatchIsZero
 match-is-zero c t w rule gate mask b h s g within sub =
     let u = ruleOf t rule in
     let (b′, e, same) = substitution-is-found c u (each-rule-is-well-formed t w rule h .1) gate mask b sub in
-    ap (λ (m : SiteMatch). m .verdict) (sym (site-at c t rule gate mask h s g) ∙ sym (mask-within c u gate mask within) ∙ ap found e)
+    ap (λ (m : SiteMatch). m .verdict) (sym (site-at c t rule gate mask h s g) ∙ sym (mask-within c u gate mask within) ∙ ap verdictBy e)
 
 -- ---- bounds
 
-found-small : (o : Option (List ℕ)) → found o .verdict ≤ 4
+found-small : (o : Option (List ℕ)) → verdictBy o .verdict ≤ noMatch
 found-small none = omega arith
 found-small (some b) = omega arith
 
 pub verdicts-are-small : VerdictsAreSmall
 unfolding judgement matchSite matchAt
 verdicts-are-small c t rule gate mask = (
-  first-either (λ v. v ≤ 2) (not (hasRule t rule)) (omega arith) (first-either (λ v. v ≤ 2) (not (isSound (ruleOf t rule))) (omega arith) (omega arith)),
+  first-either (λ v. v ≤ notSound) (not (hasRule t rule)) (omega arith) (first-either (λ v. v ≤ notSound) (not (isSound (ruleOf t rule))) (omega arith) (omega arith)),
   first-either small (not (hasRule t rule)) (omega arith)
       (first-either small (not (isSound (ruleOf t rule))) (omega arith)
       (first-either small (not (isGate c gate)) (omega arith)
@@ -105,4 +105,4 @@ verdicts-are-small c t rule gate mask = (
 )
   where
     small : SiteMatch → Type 0
-    small m = m .verdict ≤ 4
+    small m = m .verdict ≤ noMatch

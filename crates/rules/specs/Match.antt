@@ -1,9 +1,9 @@
 -- 01, Sites, 4 to 8: the match of a rule's left side at a gate.
--- A substitution is one list of bindings for all references of the left side: place r holds 0 where rule reference r is unbound, and
--- 1 more than its circuit reference where it is bound.
+-- Each reference of the left side is bound to a circuit reference, or to none. The bindings are one list as the code holds it: place r
+-- has 0 for none, else the circuit reference plus 1. `binding` leads it back to an optional reference, and `bindTo` binds.
 use Prim.Native.Nat.{ℕ, zero, suc, _+_, _-_}
 use mathlib.Core.Bool.{Bool, true, false, not}
-use mathlib.Core.List.{List, _∷_}
+use mathlib.Core.List.{List}
 use mathlib.Core.Option.{Option, none, some, bind}
 use lib.Dec.{eqb}
 use lib.ListN.{length, getD, set, replicate}
@@ -13,30 +13,44 @@ use Rattle.circuit.specs.Path.{isGate}
 use Rattle.rules.specs.Rule.{Rule, root, maxLeftReferences}
 use Rattle.rules.specs.Soundness.{bit}
 
--- the circuit reference that rule reference r is bound to; that of an unbound one is 0, which is no gate
+-- what a place says; what rule reference r is bound to
+abbrev pub optional : (place : ℕ) → Option ℕ
+optional zero = none
+optional (suc v) = some v
+
+abbrev pub binding : (bindings : List ℕ) (r : ℕ) → Option ℕ
+binding b r = optional (getD b r 0)
+
+abbrev pub bindTo : (r v : ℕ) (bindings : List ℕ) → List ℕ
+bindTo r v b = set b r (v + 1)
+
+-- and where it is known to be bound, the reference itself
 abbrev pub boundTo : (bindings : List ℕ) (r : ℕ) → ℕ
 boundTo b r = getD b r 0 - 1
 
--- 01, Sites, 8: rule reference r paired with circuit reference v. An unbound one becomes bound; a bound one needs the same reference.
+-- 01, Sites, 8: rule reference r, of which is known what it was bound to before, paired with circuit reference v. An unbound one becomes
+-- bound; a bound one needs the same reference.
+abbrev pub bindAfter : (r v : ℕ) (bindings : List ℕ) → (before : Option ℕ) → Option (List ℕ)
+bindAfter r v b none = some (bindTo r v b)
+bindAfter r v b (some w) = first (eqb w v) (some b) none
+
 -- The constants are bound to themselves from the start, so that they need the same constant.
 unfoldable pub bindReference : (r v : ℕ) (bindings : List ℕ) → Option (List ℕ)
-bindReference r v b =
-    first (eqb (getD b r 0) 0) (some (set b r (v + 1)))
-    (first (eqb (getD b r 0) (v + 1)) (some b)
-    none)
+bindReference r v b = bindAfter r v b (binding b r)
 
 -- a rule gate's two operands, the left one first, paired with circuit references x and y
 unfoldable pub bindOperands : Gate → (x y : ℕ) (bindings : List ℕ) → Option (List ℕ)
 bindOperands g x y b = bind (bindReference (g .left) x b) (bindReference (g .right) y)
 
--- 01, Sites, 6 and 7: one left gate's part of the match. Gate g, of rule reference m, must be bound to a circuit gate of its kind, and
+-- 01, Sites, 6 and 7: one left gate's part of the match. Gate g, of rule reference m, must be bound to a circuit gate v of its kind, and
 -- their operands are paired, crosswise if `swap`.
 unfoldable pub matchGate : Circuit → (m : ℕ) → Gate → (swap : Bool) (bindings : List ℕ) → Option (List ℕ)
 matchGate c m g swap b =
-    first (not (isGate c (boundTo b m))) none
-    (first (not (eqb (gateAt c (boundTo b m) .kind) (g .kind))) none
-    (first swap (bindOperands g (gateAt c (boundTo b m) .right) (gateAt c (boundTo b m) .left) b)
-    (bindOperands g (gateAt c (boundTo b m) .left) (gateAt c (boundTo b m) .right) b)))
+    bind (binding b m) (λ v.
+    first (not (isGate c v)) none
+    (first (not (eqb (gateAt c v .kind) (g .kind))) none
+    (first swap (bindOperands g (gateAt c v .right) (gateAt c v .left) b)
+    (bindOperands g (gateAt c v .left) (gateAt c v .right) b))))
 
 -- 01, Sites, 4: which bit of the mask decides for left gate i
 abbrev pub isSwapped : (mask i : ℕ) → Bool
@@ -50,7 +64,7 @@ matchGates c u mask (suc i) b =
 
 -- 01, Sites, 5: at the start the last left gate is bound to the site's gate; the constants are bound to themselves.
 abbrev pub startBindings : Rule → (gate : ℕ) → List ℕ
-startBindings u gate = set (1 ∷ 2 ∷ replicate (maxLeftReferences - 2) 0) (root u) (gate + 1)
+startBindings u gate = bindTo (root u) gate (bindTo 1 1 (bindTo 0 0 (replicate maxLeftReferences 0)))
 
 -- the match: its bindings, or none
 unfoldable pub matchRule : Circuit → Rule → (gate mask : ℕ) → Option (List ℕ)

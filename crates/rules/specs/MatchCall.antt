@@ -1,11 +1,10 @@
 -- The call `match_site` (01, Sites, 20): what it gives back, for every input.
 use Prim.Native.Nat.{ℕ}
-use mathlib.Core.Bool.{not}
 use mathlib.Core.List.{List, [], _∷_}
-use lib.Dec.{eqb}
-use Rattle.lists.specs.First.{first}
 use Rattle.lines.specs.Text.{isPartial}
+use Rattle.lines.specs.declared.Refusal.{Refusal}
 use Rattle.lines.specs.Refusal.{Result, refused, gives}
+use Rattle.lines.specs.Checks.{found, check, answering}
 use Rattle.circuit.specs.Table.{decode}
 use Rattle.circuit.specs.Refusal.{refusal, circuitTable}
 use Rattle.circuit.specs.Trim.{trim}
@@ -19,12 +18,15 @@ abbrev pub paperValues : Matched → Result
 paperValues (Verdict v) = gives (v ∷ [])
 paperValues (Refused r) = refused (r .number) (r .table)
 
--- 01, Refusals, 2: 1 for each table; 4 to 7 of the circuit; 4 to 8 of the rules. Else the circuit is trimmed, and the verdict is the
--- first of 1 to 4 that applies there, or 0.
+-- 01, Refusals, 2: 1 for each table; 4 to 7 of the circuit; 4 to 8 of the rules.
+abbrev pub matchChecks : (circuit rules : List ℕ) → List Refusal
+matchChecks circuit rules =
+    check (isPartial 3 circuit) 1 circuitTable
+    ∷ check (isPartial 3 rules) 1 rulesTable
+    ∷ found (refusal circuit) circuitTable
+    ∷ found (rulesRefusal rules) rulesTable ∷ []
+
+-- Where none applies, the circuit is trimmed, and the verdict is the first of 1 to 4 that applies there, or 0.
 unfoldable pub matching : (circuit rules : List ℕ) (rule gate mask : ℕ) → Result
 matching circuit rules rule gate mask =
-    first (isPartial 3 circuit) (refused 1 circuitTable)
-    (first (isPartial 3 rules) (refused 1 rulesTable)
-    (first (not (eqb (refusal circuit) 0)) (refused (refusal circuit) circuitTable)
-    (first (not (eqb (rulesRefusal rules) 0)) (refused (rulesRefusal rules) rulesTable)
-    (gives (matchSite (trim (decode circuit)) rules rule gate mask .verdict ∷ [])))))
+    answering (matchChecks circuit rules) (matchSite (trim (decode circuit)) rules rule gate mask .verdict ∷ [])

@@ -2,7 +2,7 @@
 use Prim.Native.Nat.{ℕ, _+_, _-_}
 use mathlib.Core.List.{List}
 use lib.ListN.{length}
-use Rattle.circuit.specs.Circuit.{Gate, firstGate}
+use Rattle.circuit.specs.Circuit.{Gate, constants, firstGate}
 
 -- A rule rewrites the left side, the pattern, to the right side, its replacement; each hole is a pattern variable. `closing` is the
 -- reference of the closing line.
@@ -26,7 +26,10 @@ abbrev pub maxRights : ℕ
 maxRights = 15
 
 -- 01, Rules, 3: a side's references are the constants 0 and 1, then the holes, then that side's own gates. So they are numbered as
--- in a circuit whose inputs are the holes: `firstGate holes` is the reference of a side's first gate.
+-- in a circuit whose inputs are the holes: `firstGate holes` is the reference of a side's first gate, `hole j` that of hole j, the
+-- first being 0.
+abbrev pub hole : (j : ℕ) → ℕ
+hole j = j + constants
 
 -- 01, Rules, 4: the left side's value is that of its last gate, the root of the pattern.
 abbrev pub root : Rule → ℕ

@@ -12,7 +12,7 @@ use Rattle.circuit.specs.Table.{lineAt}
 use Rattle.circuit.specs.Each.{allGates}
 use Rattle.circuit.specs.Path.{isUsed}
 use Rattle.circuit.specs.Refusal.{hasGateKind, isClosing, operandsBelow}
-use Rattle.rules.specs.Rule.{Rule, maxRules, maxHoles, maxLefts, maxRights}
+use Rattle.rules.specs.Rule.{Rule, maxRules, maxHoles, maxLefts, maxRights, hole}
 use Rattle.rules.specs.RuleTable.{ruleCount, rulesFrom, holesAt, leftsAt, rightsAt, closingFrom, nextRule, ruleAt}
 
 -- ---- 4 and 5
@@ -54,10 +54,17 @@ referencesOk u =
     allGates operandsBelow (firstGate (u .holes)) (u .lefts)
     && (allGates operandsBelow (firstGate (u .holes)) (u .rights) && ltb (u .closing) (firstGate (u .holes) + length (u .rights)))
 
--- 01, refusal 8, does not apply: each hole and each left gate but the last, which are the references from 2 up to the root, is an
--- operand of a left gate. That gate is a later one wherever 7 does not apply (`UseIsLater` in Theorems.antt).
+-- hole j, left gate i, is an operand of a left gate
+abbrev pub holeUsed : Rule → (j : ℕ) → Bool
+holeUsed u j = isUsed (hole j) (u .lefts)
+
+abbrev pub leftUsed : Rule → (i : ℕ) → Bool
+leftUsed u i = isUsed (firstGate (u .holes) + i) (u .lefts)
+
+-- 01, refusal 8, does not apply: each hole and each left gate but the last is an operand of a left gate. A left gate's user is a later one
+-- wherever 7 does not apply (`UseIsLater` in Theorems.antt).
 abbrev pub usesOk : Rule → Bool
-usesOk u = allBelow (λ i. isUsed (i + 2) (u .lefts)) (u .holes + length (u .lefts) - 1)
+usesOk u = allBelow (holeUsed u) (u .holes) && allBelow (leftUsed u) (length (u .lefts) - 1)
 
 -- ---- all rules
 

@@ -30,9 +30,12 @@ sitesFrom t = 3
 abbrev pub sitesEnd : List ℕ → ℕ
 sitesEnd t = sitesFrom t + 3 * siteCount t
 
--- a site is one line
+-- a site by its three numbers, which are one line
+abbrev pub site : (rule gate mask : ℕ) → Site
+site rule gate mask = record { rule = rule; gate = gate; mask = mask }
+
 abbrev pub siteOf : Gate → Site
-siteOf line = record { rule = line .kind; gate = line .left; mask = line .right }
+siteOf line = site (line .kind) (line .left) (line .right)
 
 -- site i, the first being 0
 abbrev pub siteAt : List ℕ → (i : ℕ) → Site

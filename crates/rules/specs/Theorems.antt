@@ -16,16 +16,16 @@ use Rattle.circuit.specs.Table.{decode}
 use Rattle.circuit.specs.WellFormed.{WellFormed}
 use Rattle.circuit.specs.ReverseDepth.{isLive}
 use Rattle.circuit.specs.Trim.{trim}
-use Rattle.rules.specs.Rule.{Rule}
+use Rattle.rules.specs.Rule.{Rule, hole}
 use Rattle.rules.specs.RuleTable.{placeOf, ruleOf, decodeRules, encodeRules}
 use Rattle.rules.specs.RuleRefusal.{referencesOk, usesOk, rulesRefusal}
 use Rattle.rules.specs.SiteTable.{sitesRefusal}
 use Rattle.rules.specs.WellFormed.{WellFormedRule, ValidRule, WellFormedRules, WellFormedSites}
 use Rattle.rules.specs.Soundness.{leftValue, rightValue, isSound}
 use Rattle.rules.specs.Words.{sameWords}
-use Rattle.rules.specs.Match.{boundTo, matchRule}
+use Rattle.rules.specs.Match.{binding, boundTo, matchRule}
 use Rattle.rules.specs.Substitution.{Substitution}
-use Rattle.rules.specs.Verdict.{hasRule, judgement, kindOf, kindVerdict, matchSite}
+use Rattle.rules.specs.Verdict.{passes, notSound, notAGate, noMatch, hasRule, judgement, kindOf, kindVerdict, matchSite}
 
 -- ---- tables
 
@@ -49,13 +49,13 @@ DecodeAfterEncodeRules = (us : List Rule) → decodeRules (encodeRules us) ≡ u
 abbrev pub EncodeAfterDecodeRules : Type 0
 EncodeAfterDecodeRules = (t : List ℕ) → WellFormedRules t → encodeRules (decodeRules t) ≡ t
 
--- 01, Rules, 5: where refusal 7 does not apply, 8 does not exactly if each hole is an operand of some left gate, and each left gate
+-- 01, Rules, 5: where refusal 7 does not apply, 8 does not apply exactly if each hole is an operand of some left gate, and each left gate
 -- but the last an operand of a later one.
 abbrev pub UseIsLater : Type 0
 UseIsLater =
     (u : Rule) → 1 ≤ length (u .lefts) → referencesOk u ≡ true
     → (usesOk u ≡ true)
-    ↔ (((j : ℕ) → j < u .holes → isUsed (j + 2) (u .lefts) ≡ true)
+    ↔ (((j : ℕ) → j < u .holes → isUsed (hole j) (u .lefts) ≡ true)
     × ((i : ℕ) → i + 1 < length (u .lefts) → isUsed (firstGate (u .holes) + i) (drop (i + 1) (u .lefts)) ≡ true))
 
 -- ---- soundness
@@ -84,7 +84,7 @@ abbrev pub SubstitutionIsFound : Type 0
 SubstitutionIsFound =
     (c : Circuit) (u : Rule) → ValidRule u → (gate mask : ℕ) (b : List ℕ) → Substitution c u gate mask b
     → (b′ : List ℕ) × (matchRule c u gate mask ≡ some b′)
-    × ((r : ℕ) → r < firstGate (u .holes) + length (u .lefts) → getD b′ r 0 ≡ getD b r 0)
+    × ((r : ℕ) → r < firstGate (u .holes) + length (u .lefts) → binding b′ r ≡ binding b r)
 
 -- Whatever is computed gate by gate, by an operation that does not mind its operands' order: where the holes have the values of what they
 -- stand for, each reference of the left side has the value of what it stands for.
@@ -102,8 +102,8 @@ abbrev pub MatchedGateHasValue : Type 0
 MatchedGateHasValue =
     (c : Circuit) → Ordered (firstGate (c .inputs)) (c .gates) → (u : Rule) → ValidRule u → (gate mask : ℕ) (b : List ℕ)
     → Substitution c u gate mask b → (bytes : List ℕ) → length bytes ≡ c .inputs
-    → (getD (bits c bytes) gate 0 ≡ leftValue u (λ j. getD (bits c bytes) (boundTo b (j + 2)) 0))
-    × (isSound u ≡ true → getD (bits c bytes) gate 0 ≡ rightValue u (λ j. getD (bits c bytes) (boundTo b (j + 2)) 0))
+    → (getD (bits c bytes) gate 0 ≡ leftValue u (λ j. getD (bits c bytes) (boundTo b (hole j)) 0))
+    × (isSound u ≡ true → getD (bits c bytes) gate 0 ≡ rightValue u (λ j. getD (bits c bytes) (boundTo b (hole j)) 0))
 
 -- In a trimmed circuit the left gates stand for live gates.
 abbrev pub BoundGatesAreLive : Type 0
@@ -117,7 +117,7 @@ BoundGatesAreLive =
 abbrev pub ZeroIsMatch : Type 0
 ZeroIsMatch =
     (c : Circuit) → Ordered (firstGate (c .inputs)) (c .gates) → (t : List ℕ) → WellFormedRules t → (rule gate mask : ℕ)
-    → matchSite c t rule gate mask .verdict ≡ 0
+    → matchSite c t rule gate mask .verdict ≡ passes
     → (hasRule t rule ≡ true) × (isSound (ruleOf t rule) ≡ true) × (isGate c gate ≡ true)
     × (mask / 2 ^ length (ruleOf t rule .lefts) ≡ 0)
     × Substitution c (ruleOf t rule) gate mask (matchSite c t rule gate mask .bindings)
@@ -129,13 +129,13 @@ MatchIsZero =
     → hasRule t rule ≡ true → isSound (ruleOf t rule) ≡ true → isGate c gate ≡ true
     → mask / 2 ^ length (ruleOf t rule .lefts) ≡ 0
     → Substitution c (ruleOf t rule) gate mask b
-    → matchSite c t rule gate mask .verdict ≡ 0
+    → matchSite c t rule gate mask .verdict ≡ passes
 
 -- The kind of a reference asks for 3 exactly if it is not a gate.
 abbrev pub KindAsksForGate : Type 0
-KindAsksForGate = (c : Circuit) (v : ℕ) → kindVerdict (kindOf c v) ≡ first (not (isGate c v)) 3 0
+KindAsksForGate = (c : Circuit) (v : ℕ) → kindVerdict (kindOf c v) ≡ first (not (isGate c v)) notAGate passes
 
 -- The judge's verdict is at most 2, that of the match at most 4.
 abbrev pub VerdictsAreSmall : Type 0
 VerdictsAreSmall =
-    (c : Circuit) (t : List ℕ) (rule gate mask : ℕ) → (judgement t rule ≤ 2) × (matchSite c t rule gate mask .verdict ≤ 4)
+    (c : Circuit) (t : List ℕ) (rule gate mask : ℕ) → (judgement t rule ≤ notSound) × (matchSite c t rule gate mask .verdict ≤ noMatch)

@@ -1,5 +1,5 @@
-// The tests of tables of rules and sites, in the order of 01's refusals 4 to 8. Each test is true if the refusal does not apply; the walk
-// gives the refusal's number.
+// The refusals of tables of rules and sites, and their tests in the order of 01's refusals 4 to 8. Each test is true if the refusal does
+// not apply; the walk gives the refusal's number.
 ghost use mathlib.Core.Path.{_≡_};
 ghost use Prim.Native.Nat.{_+_, _*_, _≤_};
 ghost use lib.ListN.{length, drop};
@@ -9,25 +9,26 @@ ghost use Rattle.circuit.specs.Each.{allGates};
 ghost use Rattle.circuit.specs.Refusal.{hasGateKind, operandsBelow};
 ghost use Rattle.circuit.specs.Table.{linesOf};
 ghost use Rattle.rules.specs.Rule.{maxLeftReferences};
-ghost use Rattle.rules.specs.RuleRefusal.{rulesHeadInLimits, ruleInLimits, walkFromTop, ruleKindsOk, referencesOk, usesOk, rulesKindsOk, rulesReferencesOk, rulesUsesOk};
+ghost use Rattle.rules.specs.RuleRefusal.{rulesHeadInLimits, ruleInLimits, walkFromTop, ruleKindsOk, referencesOk, usesOk, rulesKindsOk, rulesReferencesOk, rulesUsesOk, rulesRefusal};
 ghost use Rattle.rules.specs.RuleTable.{ruleAt};
-ghost use Rattle.rules.specs.SiteTable.{sitesHeadInLimits, sitesAsHeadSays};
+ghost use Rattle.rules.specs.SiteTable.{sitesHeadInLimits, sitesAsHeadSays, sitesRefusal};
 ghost use Rattle.rules.specs.WellFormed.{RuleSized, RulesSized};
-use crate::table::AND;
-use crate::table::CLOSING;
-use crate::table::CONSTANTS;
 use crate::table::MAX_HOLES;
 use crate::table::MAX_LEFTS;
 use crate::table::MAX_RIGHTS;
 use crate::table::MAX_RULES;
 use crate::table::MAX_SITES;
-use crate::table::XOR;
 use crate::table::closing_from;
 use crate::table::left_from;
 use crate::table::next_rule;
 use crate::table::right_from;
 use crate::table::rules_from;
 use crate::table::sites_from;
+use circuit::checked::AND;
+use circuit::checked::CLOSING;
+use circuit::checked::CONSTANTS;
+use circuit::checked::XOR;
+use lines::is_partial;
 
 // Refusal 4 of the rules' head.
 fn rules_head_in_limits(t: &[u32]) -> bool
@@ -49,7 +50,7 @@ fn rule_in_limits(t: &[u32], p: usize) -> bool
 }
 
 // Refusals 4 and 5 of the rules in one walk, since only a rule within its limits says where the next one begins; else 0.
-pub fn walk_from_top(t: &[u32]) -> u32
+fn walk_from_top(t: &[u32]) -> u32
     requires { ⌜ 3 ≤ length (now t) ⌝ }
     ensures { λ r. ⌜ r ≡ walkFromTop (now (t .entry)) ⌝ }
 {
@@ -107,10 +108,10 @@ fn operands_ok(t: &[u32], q: usize, n: usize, holes: u32) -> bool
     requires { ⌜ (firstGate holes + n ≤ maxLeftReferences) × (q + 3 * n ≤ length (now t)) ⌝ }
     ensures { λ r. ⌜ r ≡ allGates operandsBelow (firstGate holes) (linesOf n (drop q (now (t .entry)))) ⌝ }
 {
-    let first = holes + CONSTANTS;
+    let base = holes + CONSTANTS;
     for i in 0..n {
         let p = q + 3 * i;
-        let own = first + i as u32;
+        let own = base + i as u32;
         if !((t[p + 1] < own) & (t[p + 2] < own)) {
             return false;
         }
@@ -163,7 +164,7 @@ fn uses_ok(t: &[u32], p: usize) -> bool
 }
 
 // Refusal 6 of the rules.
-pub fn rules_kinds_ok(t: &[u32]) -> bool
+fn rules_kinds_ok(t: &[u32]) -> bool
     requires { ⌜ RulesSized (now t) ⌝ }
     ensures { λ r. ⌜ r ≡ rulesKindsOk (now (t .entry)) ⌝ }
 {
@@ -180,7 +181,7 @@ pub fn rules_kinds_ok(t: &[u32]) -> bool
 }
 
 // Refusal 7 of the rules.
-pub fn rules_references_ok(t: &[u32]) -> bool
+fn rules_references_ok(t: &[u32]) -> bool
     requires { ⌜ RulesSized (now t) ⌝ }
     ensures { λ r. ⌜ r ≡ rulesReferencesOk (now (t .entry)) ⌝ }
 {
@@ -197,7 +198,7 @@ pub fn rules_references_ok(t: &[u32]) -> bool
 }
 
 // Refusal 8 of the rules.
-pub fn rules_uses_ok(t: &[u32]) -> bool
+fn rules_uses_ok(t: &[u32]) -> bool
     requires { ⌜ RulesSized (now t) ⌝ }
     ensures { λ r. ⌜ r ≡ rulesUsesOk (now (t .entry)) ⌝ }
 {
@@ -214,7 +215,7 @@ pub fn rules_uses_ok(t: &[u32]) -> bool
 }
 
 // Refusal 4 of the sites.
-pub fn sites_head_in_limits(t: &[u32]) -> bool
+fn sites_head_in_limits(t: &[u32]) -> bool
     requires { ⌜ 3 ≤ length (now t) ⌝ }
     ensures { λ r. ⌜ r ≡ sitesHeadInLimits (now (t .entry)) ⌝ }
 {
@@ -222,10 +223,49 @@ pub fn sites_head_in_limits(t: &[u32]) -> bool
 }
 
 // Refusal 5 of the sites.
-pub fn sites_as_head_says(t: &[u32]) -> bool
+fn sites_as_head_says(t: &[u32]) -> bool
     requires { ⌜ 3 ≤ length (now t) ⌝ }
     ensures { λ r. ⌜ r ≡ sitesAsHeadSays (now (t .entry)) ⌝ }
 {
     let sites = t[0] as usize;
     t.len() == sites_from(t) + 3 * sites
+}
+
+// The number of the first refusal that applies to the rules, or 0.
+pub fn rules_refusal(t: &[u32]) -> u32
+    ensures { λ r. ⌜ r ≡ rulesRefusal (now (t .entry)) ⌝ }
+{
+    if is_partial(t) {
+        return 1;
+    }
+    let walked = walk_from_top(t);
+    if walked != 0 {
+        return walked;
+    }
+    if !rules_kinds_ok(t) {
+        return 6;
+    }
+    if !rules_references_ok(t) {
+        return 7;
+    }
+    if !rules_uses_ok(t) {
+        return 8;
+    }
+    0
+}
+
+// The number of the first refusal that applies to the sites, or 0.
+pub fn sites_refusal(t: &[u32]) -> u32
+    ensures { λ r. ⌜ r ≡ sitesRefusal (now (t .entry)) ⌝ }
+{
+    if is_partial(t) {
+        return 1;
+    }
+    if !sites_head_in_limits(t) {
+        return 4;
+    }
+    if !sites_as_head_says(t) {
+        return 5;
+    }
+    0
 }

@@ -13,17 +13,20 @@ ghost use Rattle.circuit.specs.Table.{linesOf};
 ghost use Rattle.rules.specs.Rule.{maxHoles, maxLeftReferences};
 ghost use Rattle.rules.specs.RuleTable.{ruleAt};
 ghost use Rattle.rules.specs.Soundness.{sideValue, isSound};
-ghost use Rattle.rules.specs.Verdict.{judgement};
+ghost use Rattle.rules.specs.Verdict.{passes, notSound, judgement};
 ghost use Rattle.rules.specs.WellFormed.{WellFormedRule, WellFormedRules};
 ghost use Rattle.rules.specs.Words.{assignments, startWords};
 use crate::BINDINGS;
-use crate::table::AND;
-use crate::table::CONSTANTS;
+use crate::NO_RULE;
+use crate::NOT_SOUND;
+use crate::PASSES;
 use crate::table::closing_from;
 use crate::table::has_rule;
 use crate::table::left_from;
 use crate::table::place;
 use crate::table::right_from;
+use circuit::checked::AND;
+use circuit::checked::CONSTANTS;
 
 // The words of the constants, then of the holes: bit a of hole j's is bit j of a. Behind them is the room for a side's gates.
 const START_WORDS: [u64; BINDINGS] = [
@@ -69,13 +72,13 @@ fn side_word(t: &[u32], q: usize, n: usize, holes: usize, r: usize) -> u64
     ensures { λ w. ⌜ w ≡ sideValue (linesOf n (drop q (now (t .entry)))) r (startWords assignments holes) ⌝ }
 {
     let mut words = START_WORDS;
-    let first = holes + CONSTANTS as usize;
+    let base = holes + CONSTANTS as usize;
     let mut i: usize = 0;
     while i < n {
         let left = t[q + 3 * i + 1] as usize;
         let right = t[q + 3 * i + 2] as usize;
         let word = gate_word(t[q + 3 * i], words[left], words[right]);
-        words[first + i] = word;
+        words[base + i] = word;
         i += 1;
     }
     words[r]
@@ -96,24 +99,24 @@ fn is_sound(t: &[u32], p: usize) -> bool
     left == right
 }
 
-// The verdict 2 of the rule at p, else 0.
+// NOT_SOUND, else PASSES, of the rule at p.
 pub fn soundness_verdict(t: &[u32], p: usize) -> u32
     requires { ⌜ WellFormedRule (now t) p ⌝ }
-    ensures { λ r. ⌜ r ≡ first (not (isSound (ruleAt (now (t .entry)) p))) 2 0 ⌝ }
+    ensures { λ r. ⌜ r ≡ first (not (isSound (ruleAt (now (t .entry)) p))) notSound passes ⌝ }
 {
     if is_sound(t, p) {
-        return 0;
+        return PASSES;
     }
-    2
+    NOT_SOUND
 }
 
-// The verdict 1 or 2 of a rule by its number, else 0.
+// NO_RULE or NOT_SOUND, else PASSES, of a rule by its number.
 pub fn judgement(t: &[u32], rule: u32) -> u32
     requires { ⌜ WellFormedRules (now t) ⌝ }
     ensures { λ r. ⌜ r ≡ judgement (now (t .entry)) rule ⌝ }
 {
     if !has_rule(t, rule) {
-        return 1;
+        return NO_RULE;
     }
     soundness_verdict(t, place(t, rule))
 }

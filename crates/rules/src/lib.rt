@@ -1,7 +1,8 @@
 // Rules and sites as tables of three numbers a line: their checks, the judge and the match (01, Rules; Sites).
 ghost use mathlib.Core.Path.{_≡_};
+ghost use Rattle.lines.specs.Checks.{firstFound};
 ghost use Rattle.rules.specs.JudgeCall.{judging, paperValues as judgedValues};
-ghost use Rattle.rules.specs.MatchCall.{matching, paperValues as matchedValues};
+ghost use Rattle.rules.specs.MatchCall.{matchChecks, matching, paperValues as matchedValues};
 
 pub mod checked;
 mod checking;
@@ -11,10 +12,13 @@ mod table;
 mod verdict;
 
 use circuit::CIRCUIT_TABLE;
-use circuit::checked::is_partial;
 use circuit::checked::refusal;
 use judging::judgement;
+use lines::NO_TABLE;
 use lines::Refusal;
+use lines::is_partial;
+use lines::refuse;
+use table::BINDINGS;
 use verdict::trimmed_verdict;
 
 // 01's numbers of the tables of rules and sites, for the refusals that lie in them.
@@ -22,8 +26,17 @@ pub const RULES_TABLE: u32 = 2;
 
 pub const SITES_TABLE: u32 = 3;
 
-// As many references as the left side of a rule can have, and so as many bindings.
-pub const BINDINGS: usize = 23;
+// 01's numbers of the verdicts up to the match (Sites, 13), and 0 where none applies. A `match` that decides on a verdict names each that
+// can come there, in this order, and PASSES last; nothing else comes there, so that `_`, which the language asks for, stands beside it.
+pub const PASSES: u32 = 0;
+
+pub const NO_RULE: u32 = 1;
+
+pub const NOT_SOUND: u32 = 2;
+
+pub const NOT_A_GATE: u32 = 3;
+
+pub const NO_MATCH: u32 = 4;
 
 // The judge's verdict, 1 or 2, else 0.
 pub enum Judged {
@@ -58,42 +71,38 @@ pub fn judge(rules: &[u32], rule: u32) -> Judged
     let number = checked::rules_refusal(rules);
     match number {
         0 => Judged::Verdict(judgement(rules, rule)),
-        _ => Judged::Refused(Refusal {
-            number: number,
-            table: RULES_TABLE,
-        }),
+        _ => Judged::Refused(refuse(number, RULES_TABLE)),
     }
+}
+
+// The refusal of a call of `match_site`, if there is one.
+fn match_refusal(circuit: &[u32], rules: &[u32]) -> Refusal
+    ensures { λ r. ⌜ r ≡ firstFound (matchChecks (now (circuit .entry)) (now (rules .entry))) ⌝ }
+{
+    if is_partial(circuit) {
+        return refuse(1, CIRCUIT_TABLE);
+    }
+    if is_partial(rules) {
+        return refuse(1, RULES_TABLE);
+    }
+    let of_circuit = refusal(circuit);
+    if of_circuit != 0 {
+        return refuse(of_circuit, CIRCUIT_TABLE);
+    }
+    let of_rules = checked::rules_refusal(rules);
+    if of_rules != 0 {
+        return refuse(of_rules, RULES_TABLE);
+    }
+    refuse(0, NO_TABLE)
 }
 
 // The verdict on a site before anything is replaced there: the first of 1 to 4 that applies in the trimmed circuit, else 0.
 pub fn match_site(circuit: &[u32], rules: &[u32], rule: u32, gate: u32, mask: u32) -> Matched
     ensures { λ r. ⌜ matchedValues r ≡ matching (now (circuit .entry)) (now (rules .entry)) rule gate mask ⌝ }
 {
-    if is_partial(circuit) {
-        return Matched::Refused(Refusal {
-            number: 1,
-            table: CIRCUIT_TABLE,
-        });
-    }
-    if is_partial(rules) {
-        return Matched::Refused(Refusal {
-            number: 1,
-            table: RULES_TABLE,
-        });
-    }
-    let of_circuit = refusal(circuit);
-    if of_circuit != 0 {
-        return Matched::Refused(Refusal {
-            number: of_circuit,
-            table: CIRCUIT_TABLE,
-        });
-    }
-    let of_rules = checked::rules_refusal(rules);
-    if of_rules != 0 {
-        return Matched::Refused(Refusal {
-            number: of_rules,
-            table: RULES_TABLE,
-        });
+    let refusal = match_refusal(circuit, rules);
+    if refusal.number != 0 {
+        return Matched::Refused(refusal);
     }
     Matched::Verdict(trimmed_verdict(circuit, rules, rule, gate, mask))
 }

@@ -1,21 +1,28 @@
 // The match of a rule's left side at a gate (01, Sites, Match).
 ghost use mathlib.Core.Path.{_≡_};
+ghost use mathlib.Core.Bool.{true, _||_};
 ghost use mathlib.Core.Option.{bind};
 ghost use Prim.Native.Nat.{_+_, _<_, _≤_};
+ghost use lib.Dec.{eqb};
 ghost use lib.ListN.{length, getD};
-ghost use Rattle.circuit.specs.Circuit.{maxInputs, maxGates, firstGate};
-ghost use Rattle.circuit.specs.Table.{refs, lineAt, decode};
+ghost use Rattle.circuit.specs.Circuit.{xorKind, andKind, maxReferences};
+ghost use Rattle.circuit.specs.Table.{refs, gatesFrom, lineAt, decode};
 ghost use Rattle.circuit.specs.WellFormed.{WellFormed};
 ghost use Rattle.rules.specs.Rule.{maxLeftReferences};
 ghost use Rattle.rules.specs.RuleTable.{leftsAt, ruleAt};
 ghost use Rattle.rules.specs.WellFormed.{WellFormedRule};
 ghost use Rattle.rules.specs.Match.{bindReference, matchGate, matchGates, attempt};
 ghost use Rattle.rules.specs.Verdict.{failing, matchAt};
-use crate::BINDINGS;
+use crate::NO_MATCH;
+use crate::PASSES;
 use crate::SiteMatch;
-use crate::table::CONSTANTS;
+use crate::table::BINDINGS;
 use crate::table::left_from;
+use circuit::checked::AND;
+use circuit::checked::CONSTANTS;
+use circuit::checked::XOR;
 use circuit::checked::gate_line;
+use circuit::checked::gates_from;
 
 // A verdict that applies: there are no bindings.
 pub fn failing(verdict: u32) -> SiteMatch
@@ -30,7 +37,7 @@ pub fn failing(verdict: u32) -> SiteMatch
 // Rule reference r paired with circuit reference v: an unbound one becomes bound. Where it fails, the bindings are of no more use.
 fn bind_reference(b: &mut [u32; BINDINGS], r: usize, v: u32) -> bool
     requires { ⌜ r < maxLeftReferences ⌝ }
-    requires { ⌜ v < firstGate maxInputs + maxGates ⌝ }
+    requires { ⌜ v < maxReferences ⌝ }
     ensures { λ x. ⌜ attempt x (now (b .exit)) ≡ bindReference r v (now (b .entry)) ⌝ }
 {
     let old = b[r];
@@ -44,7 +51,7 @@ fn bind_reference(b: &mut [u32; BINDINGS], r: usize, v: u32) -> bool
 // Rule references l and r paired with x and y, the left ones first.
 fn bind_operands(b: &mut [u32; BINDINGS], l: usize, r: usize, x: u32, y: u32) -> bool
     requires { ⌜ (l < maxLeftReferences) × (r < maxLeftReferences) ⌝ }
-    requires { ⌜ (x < firstGate maxInputs + maxGates) × (y < firstGate maxInputs + maxGates) ⌝ }
+    requires { ⌜ (x < maxReferences) × (y < maxReferences) ⌝ }
     ensures { λ z. ⌜ attempt z (now (b .exit)) ≡ bind (bindReference l x (now (b .entry))) (bindReference r y) ⌝ }
 {
     if bind_reference(b, l, x) {
@@ -53,24 +60,52 @@ fn bind_operands(b: &mut [u32; BINDINGS], l: usize, r: usize, x: u32, y: u32) ->
     false
 }
 
-// One left gate's part of the match: its line begins at number q of t, its reference is m. An unbound one is bound to no gate.
-fn match_gate(c: &[u32], t: &[u32], q: usize, m: usize, swap: bool, b: &mut [u32; BINDINGS]) -> bool
+// Whether a circuit gate and a rule gate are of the same kind, by their lines' kinds.
+fn same_kind(kind: u32, other: u32) -> bool
+    requires { ⌜ (eqb kind xorKind || eqb kind andKind) ≡ true ⌝ }
+    ensures { λ r. ⌜ r ≡ eqb kind other ⌝ }
+{
+    match kind {
+        XOR => match other {
+            XOR => true,
+            _ => false,
+        },
+        AND => match other {
+            AND => true,
+            _ => false,
+        },
+        _ => false,
+    }
+}
+
+// One left gate's part of the match: its line begins at number q of t, its reference is m; the circuit's gate lines begin at `from`. An
+// unbound one is bound to no gate.
+fn match_gate(
+    c: &[u32],
+    from: usize,
+    t: &[u32],
+    q: usize,
+    m: usize,
+    swap: bool,
+    b: &mut [u32; BINDINGS],
+) -> bool
     requires { ⌜ WellFormed (now c) ⌝ }
+    requires { ⌜ from ≡ gatesFrom (now c) ⌝ }
     requires { ⌜ (q + 3 ≤ length (now t)) × (m < maxLeftReferences) ⌝ }
     requires { ⌜ (getD (now t) (q + 1) 0 < maxLeftReferences) × (getD (now t) (q + 2) 0 < maxLeftReferences) ⌝ }
     ensures { λ z. ⌜ attempt z (now (b .exit)) ≡ matchGate (decode (now (c .entry))) m (lineAt (now (t .entry)) q) swap (now (b .entry)) ⌝ }
 {
-    let first = c[0] + CONSTANTS;
+    let base = c[0] + CONSTANTS;
     let bound = b[m];
-    if bound <= first {
+    if bound <= base {
         return false;
     }
-    let k = bound - 1 - first;
+    let k = bound - 1 - base;
     if c[1] <= k {
         return false;
     }
-    let line = gate_line(c, k as usize);
-    if line.kind != t[q] {
+    let line = gate_line(c, from, k as usize);
+    if !same_kind(line.kind, t[q]) {
         return false;
     }
     let l = t[q + 1] as usize;
@@ -85,23 +120,25 @@ fn match_gate(c: &[u32], t: &[u32], q: usize, m: usize, swap: bool, b: &mut [u32
 fn match_gates(c: &[u32], t: &[u32], p: usize, mask: u32, b: &mut [u32; BINDINGS]) -> bool
     requires { ⌜ WellFormed (now c) ⌝ }
     requires { ⌜ WellFormedRule (now t) p ⌝ }
-    ensures { λ z. ⌜ attempt z (now (b .exit)) ≡ matchGates (decode (now (c .entry))) (ruleAt (now (t .entry)) p) mask (leftsAt (now (t .entry)) p) (now (b .entry)) ⌝ }
+    ensures { λ z. ⌜ attempt z (now (b .exit)) ≡
+        matchGates (decode (now (c .entry))) (ruleAt (now (t .entry)) p) mask (leftsAt (now (t .entry)) p) (now (b .entry)) ⌝ }
 {
+    let gates = gates_from(c);
     let from = left_from(t, p);
-    let first = t[p] as usize + CONSTANTS as usize;
+    let base = t[p] as usize + CONSTANTS as usize;
     let mut i = t[p + 1];
     while 0 < i {
         i -= 1;
         let k = i as usize;
         let swap = (mask >> i) % 2 == 1;
-        if !match_gate(c, t, from + 3 * k, first + k, swap, b) {
+        if !match_gate(c, gates, t, from + 3 * k, base + k, swap, b) {
             return false;
         }
     }
     true
 }
 
-// The verdict 4 or 0 of the rule at number p of t at a gate, with the bindings.
+// NO_MATCH, else PASSES, of the rule at number p of t at a gate, with the bindings.
 pub fn match_at(c: &[u32], t: &[u32], p: usize, gate: u32, mask: u32) -> SiteMatch
     requires { ⌜ WellFormed (now c) ⌝ }
     requires { ⌜ WellFormedRule (now t) p ⌝ }
@@ -110,7 +147,7 @@ pub fn match_at(c: &[u32], t: &[u32], p: usize, gate: u32, mask: u32) -> SiteMat
 {
     let lefts = t[p + 1];
     if mask >> lefts != 0 {
-        return failing(4);
+        return failing(NO_MATCH);
     }
     // the constants are bound to themselves, the last left gate to the site's gate
     let mut b = [0u32; BINDINGS];
@@ -120,9 +157,9 @@ pub fn match_at(c: &[u32], t: &[u32], p: usize, gate: u32, mask: u32) -> SiteMat
     b[root] = gate + 1;
     if match_gates(c, t, p, mask, &mut b) {
         return SiteMatch {
-            verdict: 0,
+            verdict: PASSES,
             bindings: b,
         };
     }
-    failing(4)
+    failing(NO_MATCH)
 }

@@ -1,13 +1,15 @@
-// How the tables of rules and sites are laid out: their limits, the numbers that stand for kinds, and where the parts of a rule begin.
+// How the tables of rules and sites are laid out: their limits, where the parts of a rule begin, and what they say.
 ghost use mathlib.Core.Path.{_≡_};
 ghost use mathlib.Core.Bool.{true};
 ghost use Prim.Native.Nat.{_+_, _≤_};
 ghost use lib.ListN.{length};
+ghost use Rattle.circuit.specs.Circuit.{firstGate};
 ghost use Rattle.rules.specs.Rule.{maxLefts, maxRights};
-ghost use Rattle.rules.specs.RuleTable.{leftsAt, rightsAt, rulesFrom, leftFrom, rightFrom, closingFrom, nextRule, placeOf};
+ghost use Rattle.rules.specs.RuleTable.{holesAt, leftsAt, rightsAt, rulesFrom, leftFrom, rightFrom, closingFrom, nextRule, ruleAt, placeOf};
 ghost use Rattle.rules.specs.SiteTable.{sitesFrom};
 ghost use Rattle.rules.specs.Verdict.{hasRule};
-ghost use Rattle.rules.specs.WellFormed.{RulesSized};
+ghost use Rattle.rules.specs.WellFormed.{WellFormedRule, RulesSized};
+use circuit::checked::CONSTANTS;
 
 pub const MAX_RULES: u32 = 64;
 
@@ -19,14 +21,17 @@ pub const MAX_RIGHTS: u32 = 15;
 
 pub const MAX_SITES: u32 = 512;
 
-// References 0 and 1.
-pub const CONSTANTS: u32 = 2;
+// As many references as the left side of a rule can have, and so as many bindings.
+pub const BINDINGS: usize = (CONSTANTS + MAX_HOLES + MAX_LEFTS) as usize;
 
-pub const XOR: u32 = 1;
-
-pub const AND: u32 = 2;
-
-pub const CLOSING: u32 = 3;
+// What a rule's right side is read by: its base, which is the reference of its first gate, how many gates it has, where their lines
+// begin, and its closing reference.
+pub struct RightSide {
+    pub base: u32,
+    pub count: u32,
+    pub from: usize,
+    pub closing: u32,
+}
 
 // Where the first rule begins: the length of the rules' head is said here alone.
 pub fn rules_from(t: &[u32]) -> usize
@@ -99,4 +104,24 @@ pub fn place(t: &[u32], rule: u32) -> usize
         i += 1;
     }
     p
+}
+
+// The right side of the rule that begins at p.
+pub fn right_side(t: &[u32], p: usize) -> RightSide
+    requires { ⌜ WellFormedRule (now t) p ⌝ }
+    ensures { λ r. ⌜ r .base ≡ firstGate (holesAt (now (t .entry)) p) ⌝ }
+    ensures { λ r. ⌜ r .count ≡ rightsAt (now (t .entry)) p ⌝ }
+    ensures { λ r. ⌜ r .from ≡ rightFrom (now (t .entry)) p ⌝ }
+    ensures { λ r. ⌜ r .closing ≡ ruleAt (now (t .entry)) p .closing ⌝ }
+{
+    let base = t[p] + CONSTANTS;
+    let count = t[p + 2];
+    let from = right_from(t, p);
+    let closing = t[closing_from(t, p) + 1];
+    RightSide {
+        base: base,
+        count: count,
+        from: from,
+        closing: closing,
+    }
 }

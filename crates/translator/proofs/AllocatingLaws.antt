@@ -4,7 +4,6 @@ use mathlib.Core.Bool.{Bool}
 use mathlib.Core.List.{List}
 use Prim.Native.Nat.{ℕ, _+_, _≤_, _<_}
 use native.Mathlib.Omega.{arith}
-use lib.Dec.{ltb}
 use lib.ListN.{length, getD}
 use Rattle.circuit.specs.Circuit.{Gate, Circuit, firstGate, noGate}
 use Rattle.circuit.specs.Table.{inputs, gates, outputs, gateLines, decode}
@@ -12,11 +11,12 @@ use Rattle.circuit.specs.WellFormed.{WellFormed}
 use Rattle.circuit.specs.Trim.{trim}
 use Rattle.circuit.proofs.TableLaws.{gates-length, outputs-length}
 use Rattle.circuit.proofs.ValidLaws.{limited-decode}
+use Rattle.translator.specs.declared.registers.Counts.{Counts}
 use Rattle.translator.specs.Need.{need}
-use Rattle.translator.specs.LastUse.{lastUse}
+use Rattle.translator.specs.LastUse.{lastUse, isUsedBehind}
 use Rattle.translator.specs.Machine.{maxRegisters}
-use Rattle.translator.specs.Allocation.{Allocation, operated}
-use Rattle.translator.specs.Allocator.{ensureLoaded, ensureOperands, gateTurn, allocationAfter, outputsLoaded}
+use Rattle.translator.specs.Allocation.{Allocation}
+use Rattle.translator.specs.Allocator.{ensureLoaded, ensureOperands, turned, gateTurn, allocationAfter, outputsLoaded}
 use Rattle.translator.specs.Program.{instructionsOf, maxInstructions}
 use Rattle.translator.specs.Registers.{instructionAt, stackOf, allocationOf, RegisterArrays, Represents, Loadable, Turnable}
 use Rattle.translator.proofs.TrimmedLaws.{trimmed-fixed}
@@ -25,7 +25,7 @@ use Rattle.translator.proofs.RepresentsLaws.{represents-same, represent
 
 -- ---- gates
 
-pub gates-none : (c : Circuit) (owner freed place p : List ℕ) → RegisterArrays owner freed place 0 0 → Represents owner freed place p 0 0 0 p (allocationAfter c 0)
+pub gates-none : (c : Circuit) (owner freed place p : List ℕ) → RegisterArrays owner freed place 0 0 → Represents owner freed place p (record { free = 0; fresh = 0; written = 0 }) p (allocationAfter c 0)
 unfolding allocationAfter stackOf instructionsOf
 gates-none c owner freed place p k = record { arrays = k; allocation = refl; kept = record { beyond = refl; long = refl } }
 
@@ -33,7 +33,7 @@ gates-none c owner freed place p k = record { arrays = k; allocation = refl; kep
 module _ (t last : List ℕ) (well : WellFormed t) (fixed : trim (decode t) ≡ decode t) (u : (v : ℕ) → getD last v 0 ≡ lastUse (decode t) v)
     (i : ℕ) (h : i < gates t) (g : Gate) (e : getD (gateLines t) i noGate ≡ g) where
   abbrev wanted : ℕ → Bool
-  wanted v = ltb (i + 1) (getD last v 0)
+  wanted = isUsedBehind last (i + 1)
 
   inside : i < length (decode t .gates)
   inside = omega (arith, gates-length t)
@@ -43,17 +43,16 @@ module _ (t last : List ℕ) (well : WellFormed t) (fixed : trim (decode t) ≡ 
   gate-ready enough s q size room =
       rw (q, ← e) (turnable (decode t) (trimmed-fixed t well fixed) enough i inside (limited-decode t (well .sized)) last u size room)
 
-  turn : Allocation → Allocation
-  turn s = operated wanted (firstGate (inputs t) + i) g (ensureOperands g s)
+  abbrev turn : Allocation → Allocation
+  turn = turned wanted (firstGate (inputs t) + i) g
 
   turn-is : turn (allocationAfter (decode t) i) ≡ allocationAfter (decode t) (i + 1)
-  unfolding turn gateTurn
+  unfolding gateTurn
   turn-is =
-      ap (λ w. operated w (firstGate (inputs t) + i) g (ensureOperands g (allocationAfter (decode t) i))) (wanted-read (decode t) last u i inside)
+      ap (λ w. turned w (firstGate (inputs t) + i) g (allocationAfter (decode t) i)) (wanted-read (decode t) last u i inside)
       ∙ sym (allocation-more (decode t) i g e)
 
   turn-longer : (s : Allocation) → length (s .code) ≤ length (turn s .code)
-  unfolding turn
   turn-longer s =
       omega (
         arith,
@@ -62,14 +61,13 @@ module _ (t last : List ℕ) (well : WellFormed t) (fixed : trim (decode t) ≡ 
         operated-longer wanted (firstGate (inputs t) + i) g (ensureOperands g s),
       )
 
-  pub gate-done : (owner freed place p : List ℕ) (free fresh n : ℕ) (old : List ℕ) (owner′ freed′ place′ p′ : List ℕ) (free′ fresh′ n′ : ℕ)
-      → Represents owner freed place p free fresh n old (allocationAfter (decode t) i)
-      → Represents owner′ freed′ place′ p′ free′ fresh′ n′ p (operated wanted (firstGate (inputs t) + i) g (ensureOperands g (allocationOf owner freed p free fresh n)))
-      → Represents owner′ freed′ place′ p′ free′ fresh′ n′ old (allocationAfter (decode t) (i + 1))
-  unfolding turn
-  gate-done owner freed place p free fresh n old owner′ freed′ place′ p′ free′ fresh′ n′ a b =
+  pub gate-done : (owner freed place p : List ℕ) (n : Counts) (old : List ℕ) (owner′ freed′ place′ p′ : List ℕ) (n′ : Counts)
+      → Represents owner freed place p n old (allocationAfter (decode t) i)
+      → Represents owner′ freed′ place′ p′ n′ p (turn (allocationOf owner freed p n))
+      → Represents owner′ freed′ place′ p′ n′ old (allocationAfter (decode t) (i + 1))
+  gate-done owner freed place p n old owner′ freed′ place′ p′ n′ a b =
       represents-same turn-is
-      (represents-then owner freed place p free fresh n old (allocationAfter (decode t) i) owner′ freed′ place′ p′ free′ fresh′ n′ turn a b
+      (represents-then owner freed place p n old (allocationAfter (decode t) i) owner′ freed′ place′ p′ n′ turn a b
       (turn-longer (allocationAfter (decode t) i)))
 
 pub gates-all : (t : List ℕ) (i : ℕ) → i ≡ gates t → allocationAfter (decode t) i ≡ outputsLoaded (decode t) 0
@@ -91,11 +89,11 @@ module _ (t : List ℕ) (well : WellFormed t) (fixed : trim (decode t) ≡ decod
       let m = output-writable (decode t) (trimmed-fixed t well fixed) (limited-decode t (well .sized)) (j + 1) (omega (arith, outputs-length t)) in
       omega (arith, m, ap (λ x. length (x .code)) (outputs-more (decode t) j v e), ap (λ x. length (ensureLoaded v x .code)) q)
 
-  pub output-done : (owner freed place p : List ℕ) (free fresh n : ℕ) (old : List ℕ) (owner′ place′ p′ : List ℕ) (free′ fresh′ n′ : ℕ)
-      → Represents owner freed place p free fresh n old (outputsLoaded (decode t) j)
-      → Represents owner′ freed place′ p′ free′ fresh′ n′ p (ensureLoaded v (allocationOf owner freed p free fresh n))
-      → Represents owner′ freed place′ p′ free′ fresh′ n′ old (outputsLoaded (decode t) (j + 1))
-  output-done owner freed place p free fresh n old owner′ place′ p′ free′ fresh′ n′ a b =
+  pub output-done : (owner freed place p : List ℕ) (n : Counts) (old : List ℕ) (owner′ place′ p′ : List ℕ) (n′ : Counts)
+      → Represents owner freed place p n old (outputsLoaded (decode t) j)
+      → Represents owner′ freed place′ p′ n′ p (ensureLoaded v (allocationOf owner freed p n))
+      → Represents owner′ freed place′ p′ n′ old (outputsLoaded (decode t) (j + 1))
+  output-done owner freed place p n old owner′ place′ p′ n′ a b =
       represents-same (sym (outputs-more (decode t) j v e))
-      (represents-then owner freed place p free fresh n old (outputsLoaded (decode t) j) owner′ freed place′ p′ free′ fresh′ n′ (ensureLoaded v) a b
+      (represents-then owner freed place p n old (outputsLoaded (decode t) j) owner′ freed place′ p′ n′ (ensureLoaded v) a b
       (ensure-longer v (outputsLoaded (decode t) j)))

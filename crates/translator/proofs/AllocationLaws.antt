@@ -10,7 +10,7 @@ use lib.Dec.{eqb}
 use lib.ListN.{length, getD, set, length-set, length-append}
 use borrow.Author.Tests.{eq-eqb}
 use Rattle.circuit.specs.Path.{isAmong}
-use Rattle.circuit.specs.Trim.{rank}
+use Rattle.translator.specs.Need.{countBelow}
 use Rattle.translator.specs.Machine.{Instruction}
 use Rattle.translator.specs.Pressure.{oneIf}
 use Rattle.translator.specs.Allocation.{Allocation, noRegisters, registerOf, nextRegister, assign, release, loaded}
@@ -23,7 +23,7 @@ pub record Allocated (n : ℕ) (ready wanted : ℕ → Bool) (s : Allocation) : 
   pub kept : (v : ℕ) → ready v ≡ true → wanted v ≡ true → isAmong (suc v) (s .owners) ≡ true
   pub owned : (v : ℕ) → isAmong (suc v) (s .owners) ≡ true → ready v ≡ true
   pub free : Free (s .owners) (s .freed)
-  pub total : length (s .freed) + rank (λ v. ready v && wanted v) n ≡ length (s .owners)
+  pub total : length (s .freed) + countBelow (λ v. ready v && wanted v) n ≡ length (s .owners)
 
 pub allocated-same : (n : ℕ) (p p′ w w′ : ℕ → Bool) (s : Allocation) → ((v : ℕ) → p v ≡ p′ v) → ((v : ℕ) → w v ≡ w′ v)
     → Allocated n p w s → Allocated n p′ w′ s
@@ -101,7 +101,7 @@ withValue x p v = eqb v x || p v
 
 pub record Assigned (n : ℕ) (p w : ℕ → Bool) (x : ℕ) (make : ℕ → Instruction) (s : Allocation) : Type 0 where
   pub allocated : Allocated n (withValue x p) w (assign x make s)
-  pub size : length (assign x make s .owners) ≡ max (length (s .owners)) (rank (λ v. withValue x p v && w v) n)
+  pub size : length (assign x make s .owners) ≡ max (length (s .owners)) (countBelow (λ v. withValue x p v && w v) n)
   pub inside : nextRegister (s .owners) (s .freed) < length (assign x make s .owners)
 
 module _ (n : ℕ) (p w : ℕ → Bool) (x : ℕ) (make : ℕ → Instruction) (h : x < n) (r : p x ≡ false) (u : w x ≡ true) where
@@ -123,7 +123,7 @@ module _ (n : ℕ) (p w : ℕ → Bool) (x : ℕ) (make : ℕ → Instruction) (
       go true q = refl
       go false q = k v q
 
-  one-more : rank (λ v. withValue x p v && w v) n ≡ suc (rank (λ v. p v && w v) n)
+  one-more : countBelow (λ v. withValue x p v && w v) n ≡ suc (countBelow (λ v. p v && w v) n)
   one-more =
       let one : oneIf (not (p x)) ≡ 1 = rw r in
       count-added p w x n h u ∙ omega arith
@@ -165,7 +165,7 @@ module _ (n : ℕ) (p w : ℕ → Bool) (x : ℕ) (make : ℕ → Instruction) (
 
 pub record Ensured (n : ℕ) (p w : ℕ → Bool) (x : ℕ) (s : Allocation) : Type 0 where
   pub allocated : Allocated n (withValue x p) w (ensureLoaded x s)
-  pub size : length (ensureLoaded x s .owners) ≡ max (length (s .owners)) (rank (λ v. withValue x p v && w v) n)
+  pub size : length (ensureLoaded x s .owners) ≡ max (length (s .owners)) (countBelow (λ v. withValue x p v && w v) n)
 
 module _ (n : ℕ) (p w : ℕ → Bool) (x : ℕ) (s : Allocation) (h : x < n) (u : w x ≡ true) (a : Allocated n p w s) where
   -- whether it is, is whether it is ready

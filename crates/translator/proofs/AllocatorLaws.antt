@@ -11,15 +11,14 @@ use Rattle.lists.proofs.Tests.{left-of}
 use Rattle.circuit.specs.Circuit.{Gate, Circuit, firstGate, references, noGate}
 use Rattle.circuit.specs.Depth.{largest}
 use Rattle.circuit.specs.Path.{isAmong, isOutput}
-use Rattle.circuit.specs.Trim.{rank}
-use Rattle.translator.specs.LiveRange.{isUsedFrom, isReady, isHeldBefore, isHeldAfter}
-use Rattle.translator.specs.Need.{countReferences, heldAround, need}
+use Rattle.translator.specs.LiveRange.{isUsedFrom, isHeldBefore, isHeldAfter}
+use Rattle.translator.specs.Need.{countBelow, countReferences, heldAround, need}
 use Rattle.translator.specs.Machine.{Instruction}
-use Rattle.translator.specs.Allocation.{Allocation, registerOf, release, releaseOperands}
+use Rattle.translator.specs.Allocation.{Allocation, registerOf, release, releaseLeft, releaseOperands}
 use Rattle.translator.specs.Allocator.{ensureLoaded, ensureOperands, gateTurn, allocationAfter, allocationBefore, outputsLoaded, allocationAtEnd}
 use Rattle.translator.proofs.CountLaws.{count-same, count-grows}
 use Rattle.translator.proofs.TrimmedLaws.{Trimmed}
-use Rattle.translator.proofs.ReadyLaws.{ready-none, ready-operands, ready-result, result-new, wanted-here, wanted-end, left-low, right-low, left-wanted, right-wanted, left-ready, right-ready}
+use Rattle.translator.proofs.ReadyLaws.{isReady, ready-none, ready-operands, ready-result, result-new, wanted-here, wanted-end, left-low, right-low, left-wanted, right-wanted, left-ready, right-ready}
 use Rattle.translator.proofs.PressureLaws.{largest-last}
 use Rattle.translator.proofs.OwnerLaws.{among-element, among-last}
 use Rattle.translator.proofs.AllocationLaws.{Allocated, allocated-same, allocated-none, release-allocated, withValue, Assigned, assigned, Ensured, ensured}
@@ -62,7 +61,7 @@ module _ (c : Circuit) (k : Trimmed c) (i : ℕ) (h : i < length (c .gates)) (s 
   operands-size : length (ensureOperands g s .owners) ≡ max (length (s .owners)) (countReferences c (isHeldBefore c i))
   operands-size =
       let fewer = count-grows (withValue (g .left) (isReady c i i)) (isUsedFrom c i) (g .right) (references c) in
-      let all : rank (λ x. withValue (g .right) (withValue (g .left) (isReady c i i)) x && isUsedFrom c i x) (references c) ≡ countReferences c (isHeldBefore c i)
+      let all : countBelow (λ x. withValue (g .right) (withValue (g .left) (isReady c i i)) x && isUsedFrom c i x) (references c) ≡ countReferences c (isHeldBefore c i)
       = count-same _ _ (references c) (λ x l. ap (λ b. b && isUsedFrom c i x) (sym (ready-operands c k i h x))) in
       omega (arith, left-ensured .size, right-ensured .size)
 
@@ -73,7 +72,7 @@ module _ (c : Circuit) (k : Trimmed c) (i : ℕ) (h : i < length (c .gates)) (s 
       operands-allocated
 
   pub left-released : Allocated (references c) (isReady c (suc i) i) (λ x. eqb x (g .right) || w x)
-      (release (eqb (g .left) (g .right) || w (g .left)) (g .left) (ensureOperands g s))
+      (releaseLeft w g (ensureOperands g s))
   left-released =
       release-allocated (references c) (isReady c (suc i) i) (λ x. eqb x (g .right) || w x) (g .left) (ensureOperands g s)
       (omega (arith, left-low c k i h)) (left-ready c k i h) operands-wanted
@@ -95,7 +94,7 @@ module _ (c : Circuit) (k : Trimmed c) (i : ℕ) (h : i < length (c .gates)) (s 
   turn-size : length (gateTurn c i g s .owners) ≡ max (length (s .owners)) (heldAround c i)
   unfolding gateTurn
   turn-size =
-      let all : rank (λ x. withValue result (isReady c (suc i) i) x && w x) (references c) ≡ countReferences c (isHeldAfter c i)
+      let all : countBelow (λ x. withValue result (isReady c (suc i) i) x && w x) (references c) ≡ countReferences c (isHeldAfter c i)
       = count-same _ _ (references c) (λ x l. ap (λ b. b && w x) (sym (ready-result c k i h x))) in
       result-assigned _ .size ∙ omega (arith, operands-size, releases-size w g (ensureOperands g s))
 

@@ -16,10 +16,11 @@ use Rattle.lists.specs.First.{first}
 use Rattle.lists.proofs.First.{first-true, first-false}
 use Rattle.lists.proofs.Maps.{take-set}
 use Rattle.lists.proofs.Tests.{same-test}
+use Rattle.circuit.specs.Circuit.{maxReferences}
 use Rattle.circuit.specs.Path.{isAmong}
 use Rattle.translator.specs.Machine.{maxRegisters}
 use Rattle.translator.specs.Allocation.{registerOf, nextRegister, stillFree, ownersWith}
-use Rattle.translator.specs.Registers.{maxReferences, stackOf, RegisterArrays}
+use Rattle.translator.specs.Registers.{stackOf, RegisterArrays}
 use Rattle.translator.proofs.OwnerLaws.{register-at, among-at, freed-owner, freed-empty}
 
 -- ---- the stack

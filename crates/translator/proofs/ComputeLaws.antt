@@ -15,14 +15,14 @@ use Rattle.circuit.specs.Path.{isAmong, isOutput}
 use Rattle.circuit.specs.Refusal.{hasGateKind}
 use Rattle.circuit.proofs.EachLaws.{each-at}
 use Rattle.circuit.proofs.FoldLaws.{fold-solves, fold-keeps-start}
-use Rattle.translator.specs.LiveRange.{isUsedFrom, isReady}
+use Rattle.translator.specs.LiveRange.{isUsedFrom}
 use Rattle.translator.specs.Need.{need}
 use Rattle.translator.specs.Machine.{emptyMachine, run}
 use Rattle.translator.specs.Allocation.{Allocation}
 use Rattle.translator.specs.Allocator.{ensureLoaded, ensureOperands, gateTurn, allocationAfter, allocationBefore, outputsLoaded, allocationAtEnd}
 use Rattle.translator.specs.Program.{emits, withEmits}
 use Rattle.translator.proofs.TrimmedLaws.{Trimmed}
-use Rattle.translator.proofs.ReadyLaws.{ready-gate, left-low, right-low, left-wanted, right-wanted, left-ready, right-ready}
+use Rattle.translator.proofs.ReadyLaws.{isReady, ready-gate, left-low, right-low, left-wanted, right-wanted, left-ready, right-ready}
 use Rattle.translator.proofs.AllocationLaws.{Allocated, ready-is, withValue}
 use Rattle.translator.proofs.AllocatorLaws.{left-ensured, operands-allocated, both-released, after-allocated, readyOutputs, outputs-allocated, end-holds}
 use Rattle.translator.proofs.SizeLaws.{ensure-grows, before-fits, after-fits, outputs-fit}

@@ -11,18 +11,17 @@ use lib.ListN.{length, getD, set}
 use lib.Seq.{getD-set-same, getD-set-other}
 use borrow.Author.Tests.{eq-eqb, ne-eqb}
 use Rattle.lists.specs.First.{first}
-use Rattle.circuit.specs.Circuit.{Gate, Circuit, firstGate, references, noGate}
+use Rattle.circuit.specs.Circuit.{Gate, Circuit, firstGate, references, noGate, maxReferences}
 use Rattle.circuit.specs.Table.{gates, gateLines, decode}
 use Rattle.circuit.specs.WellFormed.{WellFormed}
 use Rattle.circuit.specs.Path.{isOperand, isUsed}
 use Rattle.circuit.specs.Trim.{trim}
 use Rattle.circuit.proofs.TableLaws.{gates-length}
-use Rattle.circuit.proofs.RankLaws.{rank-le}
 use Rattle.translator.specs.LiveRange.{isUsedBefore, isUsedFrom, isConstantOrInput, isHeldBefore}
-use Rattle.translator.specs.Steps.{isUnloaded}
+use Rattle.translator.specs.Actions.{isUnloaded}
 use Rattle.translator.specs.LastUse.{lastUse, countDistinct}
 use Rattle.translator.specs.Pressure.{oneIf, arrivals, departures, pressureAfter, linearNeed}
-use Rattle.translator.specs.Registers.{maxReferences}
+use Rattle.translator.proofs.CountLaws.{count-limit}
 use Rattle.translator.proofs.UseLaws.{used-take}
 use Rattle.translator.proofs.TrimmedLaws.{trimmed-fixed}
 use Rattle.translator.proofs.PressureLaws.{held-before, pressure-held, pressure-enough}
@@ -104,7 +103,7 @@ module _ (t : List ℕ) (held most i arrive : ℕ) (inv : HeldTo t held most i) 
           ap (λ p. p .held) inv,
           pressure-held c (trimmed-fixed t w k) i (omega arith),
           held-before c (trimmed-fixed t w k) i l,
-          rank-le (isHeldBefore c i) (references c),
+          count-limit (isHeldBefore c i) (references c),
           gates-length t,
           w .sized,
         )

@@ -9,16 +9,16 @@ use lib.Dec.{eqb, ltb}
 use lib.ListN.{length, getD, length-append}
 use Rattle.circuit.specs.Circuit.{Gate, Circuit, firstGate, references, noGate}
 use Rattle.circuit.proofs.ValidLaws.{Limited}
-use Rattle.translator.specs.LiveRange.{isUsedFrom, isReady}
+use Rattle.translator.specs.LiveRange.{isUsedFrom}
 use Rattle.translator.specs.Need.{need}
-use Rattle.translator.specs.LastUse.{lastUse}
+use Rattle.translator.specs.LastUse.{lastUse, isUsedBehind}
 use Rattle.translator.specs.Machine.{emitting, maxRegisters}
 use Rattle.translator.specs.Allocation.{Allocation, assign}
 use Rattle.translator.specs.Allocator.{ensureLoaded, gateTurn, allocationAfter, allocationBefore, outputsLoaded}
 use Rattle.translator.specs.Program.{program, maxInstructions}
 use Rattle.translator.specs.Registers.{instructionAt, Loadable, Operable, Turnable}
 use Rattle.translator.proofs.TrimmedLaws.{Trimmed}
-use Rattle.translator.proofs.ReadyLaws.{result-new, left-low, right-low, left-wanted, right-wanted, left-ready, right-ready}
+use Rattle.translator.proofs.ReadyLaws.{isReady, result-new, left-low, right-low, left-wanted, right-wanted, left-ready, right-ready}
 use Rattle.translator.proofs.OwnerLaws.{Free, next-inside}
 use Rattle.translator.proofs.AllocationLaws.{Allocated, read-there, release-room, ready-is}
 use Rattle.translator.proofs.AllocatorLaws.{release-size, left-ensured, operands-wanted, left-released, both-released, result-assigned, after-allocated, before-allocated, outputs-allocated}
@@ -40,7 +40,7 @@ module _ (c : Circuit) where
 
   -- what is used after gate i, by the table of last uses
   pub wanted-read : (last : List ℕ) → ((v : ℕ) → getD last v 0 ≡ lastUse c v) → (i : ℕ) → i < length (c .gates)
-      → (λ v. ltb (i + 1) (getD last v 0)) ≡ isUsedFrom c (suc i)
+      → isUsedBehind last (i + 1) ≡ isUsedFrom c (suc i)
   wanted-read last u i h =
       fun-ext (λ v. ap (ltb (i + 1)) (u v) ∙ ap (λ j. ltb j (lastUse c v)) (add-one i) ∙ sym (used-from c (suc i) v h))
 
@@ -107,7 +107,7 @@ module _ (c : Circuit) (k : Trimmed c) (enough : need c ≤ maxRegisters) where
 
     -- all that gate i asks for, by the table of last uses
     pub turnable : Limited c → (last : List ℕ) → ((v : ℕ) → getD last v 0 ≡ lastUse c v) → (size : ℕ) → instructionAt maxInstructions ≤ size
-        → Turnable (λ v. ltb (i + 1) (getD last v 0)) (firstGate (c .inputs) + i) g (allocationAfter c i) size
+        → Turnable (isUsedBehind last (i + 1)) (firstGate (c .inputs) + i) g (allocationAfter c i) size
     turnable l last u size room =
         record {
           left-next = left-loadable;

@@ -8,7 +8,7 @@ use lib.ListN.{length, take}
 use Rattle.lists.proofs.Tests.{left-of, right-of}
 use Rattle.circuit.specs.Circuit.{Circuit, firstGate}
 use Rattle.circuit.specs.Path.{isAmong, isOutput}
-use Rattle.translator.specs.LiveRange.{isUsedFrom, isReady, isHeldBefore, isHeldAfter}
+use Rattle.translator.specs.LiveRange.{isUsedFrom, isHeldBefore, isHeldAfter}
 use Rattle.translator.specs.Need.{need}
 use Rattle.translator.specs.Allocation.{Allocation}
 use Rattle.translator.specs.Allocator.{allocationAfter, allocationBefore, allocationAtEnd}
@@ -16,6 +16,7 @@ use Rattle.translator.specs.Program.{program}
 use Rattle.translator.specs.Shape.{operationKinds}
 use Rattle.translator.specs.Moment.{Holding}
 use Rattle.translator.proofs.TrimmedLaws.{Trimmed}
+use Rattle.translator.proofs.ReadyLaws.{isReady}
 use Rattle.translator.proofs.AllocatorLaws.{after-allocated, before-allocated, end-holds}
 use Rattle.translator.proofs.RunLaws.{runs-read}
 use Rattle.translator.proofs.ComputeLaws.{value, Reached, reach-after, reach-before, reach-outputs}

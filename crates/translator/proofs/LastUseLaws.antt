@@ -3,7 +3,7 @@ use mathlib.Core.Path.{_≡_, refl, sym, ap, ap₂, subst, _∙_}
 use mathlib.Core.Logic.{_≢_}
 use mathlib.Core.Bool.{Bool, true, false, _||_, or-true, or-false}
 use mathlib.Core.List.{List, [], _∷_, _++_}
-use Prim.Native.Nat.{ℕ, zero, suc, _+_, _*_, _-_, _≤_, _<_}
+use Prim.Native.Nat.{ℕ, zero, suc, _+_, _-_, _≤_, _<_}
 use native.Mathlib.Nat.{add-zero, add-suc}
 use native.Mathlib.Decide.{ℕ-discrete}
 use native.Mathlib.Numerals.{add-one}
@@ -15,9 +15,9 @@ use borrow.Author.Tests.{eq-eqb, ne-eqb, lt-ltb, le-ltb}
 use Rattle.lists.specs.First.{first}
 use Rattle.lists.proofs.First.{first-either}
 use Rattle.circuit.specs.Circuit.{Gate, Circuit, noGate}
-use Rattle.circuit.specs.Table.{gates, outputs, closingsFrom, gateLines, decode}
+use Rattle.circuit.specs.Table.{gates, outputs, gateLines, decode}
 use Rattle.circuit.specs.Path.{isAmong, isOperand, isOutput, isUsed}
-use Rattle.circuit.proofs.TableLaws.{gates-length, outputs-length, output-step}
+use Rattle.circuit.proofs.TableLaws.{gates-length, outputs-length, output-next}
 use Rattle.circuit.proofs.ReverseDepthLaws.{operand-left, operand-right}
 use Rattle.translator.specs.LiveRange.{isUsedFrom}
 use Rattle.translator.specs.LastUse.{lastGate, lastUse, countDistinct}
@@ -154,9 +154,9 @@ module _ (t d : List ℕ) where
   last-other v e = omega (arith, last-most (gateLines t) v (gates t))
 
   -- output j, which is o, is the one before
-  module _ (n i j o : ℕ) (m : UsesFrom t d n i) (q : i ≡ j + 1) (h : j < outputs t) (e : o ≡ getD t (closingsFrom t + 3 * j + 1) 0) where
+  module _ (n i j o : ℕ) (m : UsesFrom t d n i) (q : i ≡ j + 1) (h : j < outputs t) (e : o ≡ getD (decode t .outputs) j 0) where
     before : o ∷ drop i (decode t .outputs) ≡ drop j (decode t .outputs)
-    before = sym (output-step t j h ∙ ap₂ (λ x k. x ∷ drop k (decode t .outputs)) (sym e) (sym q))
+    before = sym (output-next t j h ∙ ap₂ (λ x k. x ∷ drop k (decode t .outputs)) (sym e) (sym q))
 
     pub uses-old : getD d o 0 ≡ gates t + 1 → UsesFrom t d n j
     uses-old k =

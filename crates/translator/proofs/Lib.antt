@@ -8,15 +8,15 @@ pub mod AllocationLaws
 pub mod AllocatorLaws
 pub mod SizeLaws
 pub mod RunLaws
+pub mod FaultLaws
 pub mod ComputeLaws
-pub mod StepLaws
+pub mod ActionLaws
 pub mod LoadLaws
 pub mod ShapeLaws
 pub mod RegisterLaws
 pub mod MomentLaws
 pub mod HoldingLaws
 pub mod LeveledLaws
-pub mod LineLaws
 pub mod LastUseLaws
 pub mod CountingLaws
 pub mod ArrayLaws

@@ -1,4 +1,4 @@
--- The steps as 01 says them: the operations in order, and each load once and where it belongs. Assumes nothing.
+-- The actions as 01 says them: the operations in order, and each load once and where it belongs. Assumes nothing.
 use mathlib.Core.Path.{_≡_, refl, sym, ap, ap₂, _∙_}
 use mathlib.Core.Bool.{Bool, true, false, not, _&&_, _||_, and-true, and-false, or-assoc}
 use mathlib.Core.List.{List, [], _∷_, _++_, append-assoc}
@@ -12,9 +12,9 @@ use borrow.Author.Tests.{eq-eqb, ne-eqb}
 use Rattle.lists.specs.First.{first}
 use Rattle.circuit.specs.Circuit.{Gate, Circuit, firstGate, noGate}
 use Rattle.circuit.specs.Path.{isAmong, isOutput, isOperand, isUsed}
-use Rattle.circuit.specs.Trim.{rank}
+use Rattle.translator.specs.Need.{countBelow}
 use Rattle.translator.specs.LiveRange.{isUsedBefore, isUsedFrom, isConstantOrInput}
-use Rattle.translator.specs.Steps.{Step, load, operate, loadIf, isUnloaded, operandLoads, outputLoads, stepsFrom, steps, loadsOf, operationsOf}
+use Rattle.translator.specs.Actions.{Action, load, operate, loadIf, isUnloaded, operandLoads, outputLoads, actionsFrom, actions, loadsOf, operationsOf}
 use Rattle.translator.specs.Pressure.{oneIf}
 use Rattle.translator.specs.Shape.{occurrences}
 use Rattle.translator.proofs.CountLaws.{count-none, count-more}
@@ -22,28 +22,28 @@ use Rattle.translator.proofs.UseLaws.{used-take, used-drop}
 use Rattle.translator.proofs.ReadyLaws.{wanted-end}
 use Rattle.translator.proofs.OwnerLaws.{among-last}
 
--- ---- lists of steps
+-- ---- lists of actions
 
-module _ (ss : List Step) where
-  pub loads-append : (rs : List Step) → loadsOf (rs ++ ss) ≡ loadsOf rs ++ loadsOf ss
+module _ (ss : List Action) where
+  pub loads-append : (rs : List Action) → loadsOf (rs ++ ss) ≡ loadsOf rs ++ loadsOf ss
   unfolding loadsOf
   loads-append [] = refl
   loads-append (load v ∷ rs) = ap (λ l. v ∷ l) (loads-append rs)
   loads-append (operate v g ∷ rs) = loads-append rs
 
-  pub operations-append : (rs : List Step) → operationsOf (rs ++ ss) ≡ operationsOf rs ++ operationsOf ss
+  pub operations-append : (rs : List Action) → operationsOf (rs ++ ss) ≡ operationsOf rs ++ operationsOf ss
   unfolding operationsOf
   operations-append [] = refl
   operations-append (load v ∷ rs) = operations-append rs
   operations-append (operate v g ∷ rs) = ap (λ l. g ∷ l) (operations-append rs)
 
-pub steps-length : (ss : List Step) → length ss ≡ length (loadsOf ss) + length (operationsOf ss)
+pub actions-length : (ss : List Action) → length ss ≡ length (loadsOf ss) + length (operationsOf ss)
 unfolding loadsOf operationsOf
-steps-length [] = refl
-steps-length (load v ∷ ss) = omega (arith, steps-length ss)
-steps-length (operate v g ∷ ss) = omega (arith, steps-length ss)
+actions-length [] = refl
+actions-length (load v ∷ ss) = omega (arith, actions-length ss)
+actions-length (operate v g ∷ ss) = omega (arith, actions-length ss)
 
-load-operations : (b : Bool) (v : ℕ) (ss : List Step) → operationsOf (loadIf b v ++ ss) ≡ operationsOf ss
+load-operations : (b : Bool) (v : ℕ) (ss : List Action) → operationsOf (loadIf b v ++ ss) ≡ operationsOf ss
 unfolding operationsOf
 load-operations true v ss = refl
 load-operations false v ss = refl
@@ -57,36 +57,36 @@ module _ (c : Circuit) where
   output-operations j (o ∷ os) =
       load-operations (isUnloaded c (length (c .gates)) o && not (isAmong o (take j (c .outputs)))) o (outputLoads c (suc j) os) ∙ output-operations (suc j) os
 
-  pub operand-operations : (i : ℕ) (g : Gate) (ss : List Step) → operationsOf (operandLoads c i g ++ ss) ≡ operationsOf ss
+  pub operand-operations : (i : ℕ) (g : Gate) (ss : List Action) → operationsOf (operandLoads c i g ++ ss) ≡ operationsOf ss
   operand-operations i g ss =
       let l = isUnloaded c i (g .left) in
       let r = isUnloaded c i (g .right) && not (eqb (g .right) (g .left)) in
       ap operationsOf (append-assoc (loadIf l (g .left)) (loadIf r (g .right)) ss)
       ∙ load-operations l (g .left) (loadIf r (g .right) ++ ss) ∙ load-operations r (g .right) ss
 
-  pub operations-from : (i : ℕ) (gs : List Gate) → operationsOf (stepsFrom c i gs) ≡ gs
-  unfolding stepsFrom operationsOf
+  pub operations-from : (i : ℕ) (gs : List Gate) → operationsOf (actionsFrom c i gs) ≡ gs
+  unfolding actionsFrom operationsOf
   operations-from i [] = output-operations 0 (c .outputs)
   operations-from i (g ∷ gs) =
-      operand-operations i g (operate (firstGate (c .inputs) + i) g ∷ stepsFrom c (suc i) gs) ∙ ap (λ l. g ∷ l) (operations-from (suc i) gs)
+      operand-operations i g (operate (firstGate (c .inputs) + i) g ∷ actionsFrom c (suc i) gs) ∙ ap (λ l. g ∷ l) (operations-from (suc i) gs)
 
-  pub operations-steps : operationsOf (steps c) ≡ c .gates
-  unfolding steps
-  operations-steps = operations-from 0 (c .gates)
+  pub operations-actions : operationsOf (actions c) ≡ c .gates
+  unfolding actions
+  operations-actions = operations-from 0 (c .gates)
 
-  -- ---- the steps before gate i, and from it on
+  -- ---- the actions before gate i, and from it on
 
-  pub steps-split : (i : ℕ) → i ≤ length (c .gates)
-      → (before : List Step) × (steps c ≡ before ++ stepsFrom c i (drop i (c .gates))) × (operationsOf before ≡ take i (c .gates))
-  unfolding steps stepsFrom operationsOf
-  steps-split zero h = ([], refl, refl)
-  steps-split (suc i) h =
+  pub actions-split : (i : ℕ) → i ≤ length (c .gates)
+      → (before : List Action) × (actions c ≡ before ++ actionsFrom c i (drop i (c .gates))) × (operationsOf before ≡ take i (c .gates))
+  unfolding actions actionsFrom operationsOf
+  actions-split zero h = ([], refl, refl)
+  actions-split (suc i) h =
       let g = getD (c .gates) i noGate in
-      let (before, e, q) = steps-split i (omega arith) in
+      let (before, e, q) = actions-split i (omega arith) in
       let now = operandLoads c i g ++ (operate (firstGate (c .inputs) + i) g ∷ []) in
-      let rest = stepsFrom c (suc i) (drop (suc i) (c .gates)) in (
+      let rest = actionsFrom c (suc i) (drop (suc i) (c .gates)) in (
         before ++ now,
-        e ∙ ap (λ gs. before ++ stepsFrom c i gs) (drop-cons (c .gates) i noGate h)
+        e ∙ ap (λ gs. before ++ actionsFrom c i gs) (drop-cons (c .gates) i noGate h)
             ∙ ap (λ l. before ++ l) (sym (append-assoc (operandLoads c i g) (operate (firstGate (c .inputs) + i) g ∷ []) rest))
             ∙ sym (append-assoc before now rest),
         operations-append now before ∙ ap₂ _++_ q (operand-operations i g (operate (firstGate (c .inputs) + i) g ∷ []))
@@ -106,7 +106,7 @@ load-occurrences true x v = omega arith
 load-occurrences false x v = refl
 
 -- a list in which exactly those that pass the test are, each once, is as long as there are such
-pub occurrences-count : (xs : List ℕ) (p : ℕ → Bool) (m : ℕ) → ((v : ℕ) → p v ≡ true → v < m) → ((v : ℕ) → occurrences v xs ≡ oneIf (p v)) → length xs ≡ rank p m
+pub occurrences-count : (xs : List ℕ) (p : ℕ → Bool) (m : ℕ) → ((v : ℕ) → p v ≡ true → v < m) → ((v : ℕ) → occurrences v xs ≡ oneIf (p v)) → length xs ≡ countBelow p m
 unfolding occurrences
 occurrences-count [] p m low e = sym (count-none p m (λ v. none (p v) (e v)))
   where
@@ -143,49 +143,22 @@ two-loads : (new : ℕ → Bool) (v l r : ℕ)
     → oneIf (new l && eqb v l) + oneIf ((new r && not (eqb r l)) && eqb v r) ≡ oneIf (new v && (eqb v l || eqb v r))
 two-loads new v l r = at (ℕ-discrete v l) (ℕ-discrete v r)
   where
-    same : (b : Bool) → oneIf (b && true) + oneIf ((b && false) && true) ≡ oneIf (b && true)
-    same true = refl
-    same false = refl
-
-    left : (b d : Bool) → oneIf (b && true) + oneIf (d && false) ≡ oneIf (b && true)
-    left true true = refl
-    left true false = refl
-    left false true = refl
-    left false false = refl
-
-    right : (b d : Bool) → oneIf (d && false) + oneIf ((b && true) && true) ≡ oneIf (b && true)
-    right true true = refl
-    right true false = refl
-    right false true = refl
-    right false false = refl
-
-    none : (a b d : Bool) → oneIf (a && false) + oneIf (b && false) ≡ oneIf (d && false)
-    none a b d = rw (and-false a, and-false b, and-false d)
-
     at : Dec (v ≡ l) → Dec (v ≡ r)
         → oneIf (new l && eqb v l) + oneIf ((new r && not (eqb r l)) && eqb v r) ≡ oneIf (new v && (eqb v l || eqb v r))
-    at (yes e) (yes f) = rw (eq-eqb v l e, eq-eqb r l (sym f ∙ e), eq-eqb v r f, ap new (sym e), ap new (sym f)) (same (new v))
-    at (yes e) (no f) = rw (eq-eqb v l e, ne-eqb v r f, ap new (sym e)) (left (new v) (new r && not (eqb r l)))
-    at (no e) (yes f) = rw (ne-eqb v l e, ne-eqb r l (λ q. e (f ∙ q)), eq-eqb v r f, ap new (sym f)) (right (new v) (new l))
-    at (no e) (no f) = rw (ne-eqb v l e, ne-eqb v r f) (none (new l) (new r && not (eqb r l)) (new v))
+    at (yes e) (yes f) =
+        rw (eq-eqb v l e, eq-eqb r l (sym f ∙ e), eq-eqb v r f, ap new (sym e), ap new (sym f), and-true (new v), and-false (new v)) (omega arith)
+    at (yes e) (no f) = rw (eq-eqb v l e, ne-eqb v r f, ap new (sym e), and-false (new r && not (eqb r l))) (omega arith)
+    at (no e) (yes f) = rw (ne-eqb v l e, ne-eqb r l (λ q. e (f ∙ q)), eq-eqb v r f, ap new (sym f), and-false (new l), and-true (new v && true)) (omega arith)
+    at (no e) (no f) = rw (ne-eqb v l e, ne-eqb v r f, and-false (new l), and-false (new r && not (eqb r l)), and-false (new v))
 
 next-output : (new seen : ℕ → Bool) (v o : ℕ) (later : Bool)
     → oneIf ((new o && not (seen o)) && eqb v o) + oneIf (new v && (not (eqb v o || seen v) && later)) ≡ oneIf (new v && (not (seen v) && (eqb v o || later)))
 next-output new seen v o later = at (ℕ-discrete v o)
   where
-    here : (b d : Bool) → oneIf ((b && not d) && true) + oneIf (b && false) ≡ oneIf (b && (not d && true))
-    here true true = refl
-    here true false = refl
-    here false d = refl
-
-    other : (a b : Bool) → oneIf (a && false) + oneIf b ≡ oneIf b
-    other a true = rw (and-false a)
-    other a false = rw (and-false a)
-
     at : Dec (v ≡ o)
         → oneIf ((new o && not (seen o)) && eqb v o) + oneIf (new v && (not (eqb v o || seen v) && later)) ≡ oneIf (new v && (not (seen v) && (eqb v o || later)))
-    at (yes e) = rw (eq-eqb v o e, ap new (sym e), ap seen (sym e)) (here (new v) (seen v))
-    at (no e) = rw (ne-eqb v o e) (other (new o && not (seen o)) (new v && (not (seen v) && later)))
+    at (yes e) = rw (eq-eqb v o e, ap new (sym e), ap seen (sym e), and-true (new v && not (seen v)), and-true (not (seen v)), and-false (new v)) (omega arith)
+    at (no e) = rw (ne-eqb v o e, and-false (new o && not (seen o))) (omega arith)
 
 next-gate : (low before uses later : Bool) → oneIf ((low && not before) && uses) + oneIf ((low && not (before || uses)) && later) ≡ oneIf ((low && not before) && (uses || later))
 next-gate false before uses later = refl
@@ -228,30 +201,30 @@ module _ (c : Circuit) (v : ℕ) where
       ∙ ap (λ l. oneIf (new v && (not (isAmong v (take j (c .outputs))) && isAmong v l))) (sym (drop-cons (c .outputs) j 0 l))
 
   -- from gate i on: what no gate before it uses
-  pub step-occurrences : (m i : ℕ) → i + m ≡ length (c .gates)
-      → occurrences v (loadsOf (stepsFrom c i (drop i (c .gates)))) ≡ oneIf (isUnloaded c i v && isUsedFrom c i v)
-  unfolding stepsFrom loadsOf isAmong
-  step-occurrences zero i h =
+  pub from-occurrences : (m i : ℕ) → i + m ≡ length (c .gates)
+      → occurrences v (loadsOf (actionsFrom c i (drop i (c .gates)))) ≡ oneIf (isUnloaded c i v && isUsedFrom c i v)
+  unfolding actionsFrom loadsOf isAmong
+  from-occurrences zero i h =
       let n = length (c .gates) in
       let e : i ≡ n = omega arith in
       rw e (
-      ap (λ gs. occurrences v (loadsOf (stepsFrom c n gs))) (drop-length (c .gates)) ∙ output-occurrences (length (c .outputs)) 0 (omega arith)
+      ap (λ gs. occurrences v (loadsOf (actionsFrom c n gs))) (drop-length (c .gates)) ∙ output-occurrences (length (c .outputs)) 0 (omega arith)
       ∙ ap (λ b. oneIf (isUnloaded c n v && b)) (sym (wanted-end c v))
       )
-  step-occurrences (suc m) i h =
+  from-occurrences (suc m) i h =
       let l : i < length (c .gates) = omega arith in
       let g = getD (c .gates) i noGate in
-      let rest = stepsFrom c (suc i) (drop (suc i) (c .gates)) in
-      ap (λ gs. occurrences v (loadsOf (stepsFrom c i gs))) (drop-cons (c .gates) i noGate l)
+      let rest = actionsFrom c (suc i) (drop (suc i) (c .gates)) in
+      ap (λ gs. occurrences v (loadsOf (actionsFrom c i gs))) (drop-cons (c .gates) i noGate l)
       ∙ ap (occurrences v) (loads-append (operate (firstGate (c .inputs) + i) g ∷ rest) (operandLoads c i g))
       ∙ occurrences-append v (loadsOf (operandLoads c i g)) (loadsOf rest)
-      ∙ ap₂ _+_ (operand-occurrences i g) (step-occurrences m (suc i) (omega arith)
+      ∙ ap₂ _+_ (operand-occurrences i g) (from-occurrences m (suc i) (omega arith)
       ∙ ap (λ b. oneIf ((isConstantOrInput c v && not b) && isUsedFrom c (suc i) v)) (used-take v (c .gates) i l))
       ∙ next-gate (isConstantOrInput c v) (isUsedBefore c i v) (isOperand v g) (isUsedFrom c (suc i) v)
       ∙ ap (λ b. oneIf (isUnloaded c i v && b)) (sym (or-assoc (isOperand v g) (isUsed v (drop (suc i) (c .gates))) (isOutput c v))
       ∙ ap (λ b. b || isOutput c v) (sym (used-drop v (c .gates) i l)))
 
-  pub steps-occurrences : occurrences v (loadsOf (steps c)) ≡ oneIf (isConstantOrInput c v && isUsedFrom c 0 v)
-  unfolding steps isUsed
-  steps-occurrences =
-      step-occurrences (length (c .gates)) 0 (omega arith) ∙ ap (λ b. oneIf (b && isUsedFrom c 0 v)) (and-true (isConstantOrInput c v))
+  pub actions-occurrences : occurrences v (loadsOf (actions c)) ≡ oneIf (isConstantOrInput c v && isUsedFrom c 0 v)
+  unfolding actions isUsed
+  actions-occurrences =
+      from-occurrences (length (c .gates)) 0 (omega arith) ∙ ap (λ b. oneIf (b && isUsedFrom c 0 v)) (and-true (isConstantOrInput c v))

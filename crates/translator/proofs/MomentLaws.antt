@@ -20,7 +20,7 @@ use Rattle.translator.specs.Allocator.{ensureLoaded, ensureOperands, gat
 use Rattle.translator.specs.Program.{emits, program}
 use Rattle.translator.specs.Shape.{operationKinds}
 use Rattle.translator.proofs.TrimmedLaws.{Trimmed}
-use Rattle.translator.proofs.StepLaws.{end-is-program}
+use Rattle.translator.proofs.ActionLaws.{end-is-program}
 use Rattle.translator.proofs.ShapeLaws.{releases-code}
 
 -- ---- fronts

@@ -12,16 +12,15 @@ use Rattle.lists.specs.Below.{mapBelow}
 use Rattle.circuit.specs.Circuit.{Gate, Circuit, firstGate, references, noGate}
 use Rattle.circuit.specs.Depth.{largest}
 use Rattle.circuit.specs.Path.{isAmong, isOutput}
-use Rattle.circuit.specs.Trim.{rank}
 use Rattle.circuit.proofs.ValidLaws.{among-head, among-tail}
-use Rattle.translator.specs.LiveRange.{isUsedFrom, isReady, isHeldBefore, isHeldAfter}
-use Rattle.translator.specs.Need.{countReferences, heldAround, need}
-use Rattle.translator.specs.Steps.{isUnloaded}
+use Rattle.translator.specs.LiveRange.{isUsedFrom, isHeldBefore, isHeldAfter}
+use Rattle.translator.specs.Need.{countBelow, countReferences, heldAround, need}
+use Rattle.translator.specs.Actions.{isUnloaded}
 use Rattle.translator.specs.LastUse.{countDistinct}
 use Rattle.translator.specs.Pressure.{oneIf, arrivals, departures, pressureAfter, linearNeed}
 use Rattle.translator.proofs.CountLaws.{count-none, count-same, count-more, added-there, count-added, count-wanted}
 use Rattle.translator.proofs.TrimmedLaws.{Trimmed}
-use Rattle.translator.proofs.ReadyLaws.{neither, ready-none, ready-operands, ready-result, result-new, unloaded-is, wanted-here, left-low, right-low, left-wanted, right-wanted, left-ready, right-ready}
+use Rattle.translator.proofs.ReadyLaws.{isReady, neither, ready-none, ready-operands, ready-result, result-new, unloaded-is, wanted-here, left-low, right-low, left-wanted, right-wanted, left-ready, right-ready}
 
 -- between the gates before gate i and its loads
 abbrev pub heldBetween : Circuit → (i : ℕ) → ℕ
@@ -57,7 +56,7 @@ module _ (c : Circuit) (k : Trimmed c) (i : ℕ) (h : i < length (c .gates)) whe
   held-after =
       let p = isReady c (suc i) i in
       let w = isUsedFrom c (suc i) in
-      let m = rank (λ x. p x && w x) (references c) in
+      let m = countBelow (λ x. p x && w x) (references c) in
       let before : countReferences c (isHeldBefore c i) ≡ oneIf (not (eqb (g .left) (g .right) || w (g .left))) + (oneIf (not (w (g .right))) + m)
       = count-same _ _ (references c) (λ x q. ap (λ b. p x && b) (wanted-here c k i h x))
       ∙ count-wanted p (λ x. eqb x (g .right) || w x) (g .left) (references c) (omega (arith, left-low c k i h)) (left-ready c k i h)
@@ -109,13 +108,13 @@ module _ (c : Circuit) (k : Trimmed c) where
   outputs-need = omega arith
 
 -- the different outputs
-distinct-count : (os : List ℕ) (n : ℕ) → ((o : ℕ) → isAmong o os ≡ true → o < n) → countDistinct os ≡ rank (λ v. isAmong v os) n
+distinct-count : (os : List ℕ) (n : ℕ) → ((o : ℕ) → isAmong o os ≡ true → o < n) → countDistinct os ≡ countBelow (λ v. isAmong v os) n
 unfolding countDistinct isAmong
 distinct-count [] n h = sym (count-none _ n (λ v. refl))
 distinct-count (o ∷ os) n h = go (isAmong o os) refl (distinct-count os n (λ x e. h x (among-tail x o os e)))
   where
-    go : (b : Bool) → isAmong o os ≡ b → countDistinct os ≡ rank (λ v. isAmong v os) n
-        → first b (countDistinct os) (countDistinct os + 1) ≡ rank (λ v. eqb v o || isAmong v os) n
+    go : (b : Bool) → isAmong o os ≡ b → countDistinct os ≡ countBelow (λ v. isAmong v os) n
+        → first b (countDistinct os) (countDistinct os + 1) ≡ countBelow (λ v. eqb v o || isAmong v os) n
     go true e ih = ih ∙ sym (count-same _ _ n (λ v l. added-there (λ x. isAmong x os) o e v))
     go false e ih =
         omega (arith, count-more (λ v. isAmong v os) (λ v. eqb v o || isAmong v os) o n (h o (among-head o os)) e (rw (eq-eqb o o refl)) (λ v ne. rw (ne-eqb v o ne)))

@@ -12,6 +12,7 @@ use Rattle.lines.specs.Calls.{over}
 use Rattle.circuit.specs.Circuit.{Circuit}
 use Rattle.circuit.specs.Path.{isAmong}
 use Rattle.circuit.proofs.ValidLaws.{Limited, among-head, among-tail}
+use Rattle.translator.specs.declared.registers.Counts.{Counts}
 use Rattle.translator.specs.Machine.{Instruction, emitting}
 use Rattle.translator.specs.Allocation.{registerOf}
 use Rattle.translator.specs.Allocator.{outputsLoaded, allocationAtEnd}
@@ -19,7 +20,7 @@ use Rattle.translator.specs.Program.{emits, program, encodeProgram, inst
 use Rattle.translator.specs.Registers.{instructionAt, Beyond, Represents}
 use Rattle.translator.proofs.TrimmedLaws.{Trimmed}
 use Rattle.translator.proofs.AllocatorLaws.{end-holds}
-use Rattle.translator.proofs.StepLaws.{end-is-program}
+use Rattle.translator.proofs.ActionLaws.{end-is-program}
 use Rattle.translator.proofs.ShapeLaws.{program-limit}
 use Rattle.translator.proofs.ArrayLaws.{register-place}
 use Rattle.translator.proofs.WritingLaws.{instructions-length, numbersOf, write-instruction, beyond-more, beyond-then, beyond-all}
@@ -73,37 +74,37 @@ outputs-longer c zero = omega arith
 outputs-longer c (suc j) = omega (arith, outputs-longer c j, ensure-longer (getD (c .outputs) j 0) (outputsLoaded c j))
 
 -- when all outputs are loaded
-module _ (c : Circuit) (k : Trimmed c) (owner freed place p : List ℕ) (free fresh n : ℕ) (old : List ℕ)
-    (r : Represents owner freed place p free fresh n old (allocationAtEnd c)) where
+module _ (c : Circuit) (k : Trimmed c) (owner freed place p : List ℕ) (n : Counts) (old : List ℕ)
+    (r : Represents owner freed place p n old (allocationAtEnd c)) where
   -- the outputs' values are where their places say
   places : emits (allocationAtEnd c .owners) (c .outputs) ≡ map (λ v. emitting (getD place v 0)) (c .outputs)
   places =
       map-among (λ v. emitting (registerOf (allocationAtEnd c .owners) v)) (λ v. emitting (getD place v 0)) (c .outputs)
       (λ o l.
       let q = ap (λ s. s .owners) (r .allocation) in
-      ap emitting (ap (λ ws. registerOf ws o) (sym q) ∙ register-place owner freed place free fresh (r .arrays) o (ap (isAmong (suc o)) q ∙ end-holds c k o l)))
+      ap emitting (ap (λ ws. registerOf ws o) (sym q) ∙ register-place owner freed place (n .free) (n .fresh) (r .arrays) o (ap (isAmong (suc o)) q ∙ end-holds c k o l)))
 
-  program-is : instructionsOf n p ++ map (λ v. emitting (getD place v 0)) (c .outputs) ≡ program c
+  program-is : instructionsOf (n .written) p ++ map (λ v. emitting (getD place v 0)) (c .outputs) ≡ program c
   program-is = ap₂ _++_ (ap (λ s. s .code) (r .allocation)) (sym places) ∙ end-is-program c k
 
-  pub emits-fit : Limited c → n + length (c .outputs) ≤ maxInstructions
+  pub emits-fit : Limited c → n .written + length (c .outputs) ≤ maxInstructions
   emits-fit l =
       let f : ℕ → Instruction = λ v. emitting (getD place v 0) in
-      omega (arith, ap length program-is, length-append (instructionsOf n p) (map f (c .outputs)), length-map (c .outputs) f, instructions-length n p, program-limit c k l)
+      omega (arith, ap length program-is, length-append (instructionsOf (n .written) p) (map f (c .outputs)), length-map (c .outputs) f, instructions-length (n .written) p, program-limit c k l)
 
   -- `old` is the buffer before the loads of the outputs, and p′ that after the emits
-  pub program-written : (owner₁ freed₁ place₁ : List ℕ) (free₁ fresh₁ n₁ : ℕ) (p₀ : List ℕ) → Represents owner₁ freed₁ place₁ old free₁ fresh₁ n₁ p₀ (outputsLoaded c 0)
-      → (p′ : List ℕ) (m : ℕ) → instructionsOf m p′ ≡ instructionsOf n p ++ map (λ v. emitting (getD place v 0)) (c .outputs) → Beyond p p′ m
+  pub program-written : (owner₁ freed₁ place₁ : List ℕ) (n₁ : Counts) (p₀ : List ℕ) → Represents owner₁ freed₁ place₁ old n₁ p₀ (outputsLoaded c 0)
+      → (p′ : List ℕ) (m : ℕ) → instructionsOf m p′ ≡ instructionsOf (n .written) p ++ map (λ v. emitting (getD place v 0)) (c .outputs) → Beyond p p′ m
       → instructionAt maxInstructions ≤ length p₀ → Limited c
       → (m ≡ length (program c)) × (p′ ≡ over (encodeProgram (program c)) p₀)
-  program-written owner₁ freed₁ place₁ free₁ fresh₁ n₁ p₀ a p′ m e b room l =
+  program-written owner₁ freed₁ place₁ n₁ p₀ a p′ m e b room l =
       let f : ℕ → Instruction = λ v. emitting (getD place v 0) in
       let x = e ∙ program-is in
       let count : m ≡ length (program c) = sym (instructions-length m p′) ∙ ap length x in
-      let s₁ = code-written owner₁ freed₁ old free₁ fresh₁ n₁ _ (a .allocation) in
-      let s = code-written owner freed p free fresh n _ (r .allocation) in
+      let s₁ = code-written owner₁ freed₁ old n₁ _ (a .allocation) in
+      let s = code-written owner freed p n _ (r .allocation) in
       let longer = outputs-longer c (length (c .outputs)) in
-      let more = length-append (instructionsOf n p) (map f (c .outputs)) in
-      let kept = beyond-then p₀ old p n₁ n (omega arith) (a .kept) (r .kept) in
-      let all = beyond-then p₀ p p′ n m (omega (arith, ap length program-is, instructions-length n p)) kept b in
+      let more = length-append (instructionsOf (n .written) p) (map f (c .outputs)) in
+      let kept = beyond-then p₀ old p (n₁ .written) (n .written) (omega arith) (a .kept) (r .kept) in
+      let all = beyond-then p₀ p p′ (n .written) m (omega (arith, ap length program-is, instructions-length (n .written) p)) kept b in
       (count, beyond-all p₀ p′ m (program c) (omega (arith, program-limit c k l, all .long)) all x)

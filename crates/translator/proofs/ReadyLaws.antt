@@ -1,7 +1,7 @@
 -- When values are ready and when they are wanted, from one gate to the next. Assumes nothing.
 use mathlib.Core.Path.{_≡_, refl, sym, ap, _∙_}
 use mathlib.Core.Logic.{_≢_}
-use mathlib.Core.Bool.{Bool, true, false, not, _&&_, _||_, or-true, or-assoc}
+use mathlib.Core.Bool.{Bool, true, false, not, _&&_, _||_, and-true, and-false, or-true, or-false, or-comm, or-assoc}
 use Prim.Native.Nat.{ℕ, suc, _+_, _≤_, _<_}
 use native.Mathlib.Decide.{decLt, ℕ-discrete}
 use native.Mathlib.Omega.{arith}
@@ -11,40 +11,32 @@ use lib.Seq.{drop-length}
 use borrow.Author.Tests.{eq-eqb, ne-eqb, lt-ltb, le-ltb}
 use Rattle.circuit.specs.Circuit.{Gate, Circuit, firstGate, noGate}
 use Rattle.circuit.specs.Path.{isOutput, isUsed}
-use Rattle.translator.specs.LiveRange.{isUsedBefore, isUsedFrom, isReady}
-use Rattle.translator.specs.Steps.{isUnloaded}
+use Rattle.translator.specs.LiveRange.{isUsedBefore, isUsedFrom, isLoadedBefore, isComputedBefore}
+use Rattle.translator.specs.Actions.{isUnloaded}
 use Rattle.translator.proofs.UseLaws.{used-take, used-drop}
 use Rattle.translator.proofs.TrimmedLaws.{Trimmed, operands-low}
 
 -- what has been added is the one or the other, or was there
 regroup : (a b u : Bool) → u || (a || b) ≡ b || (a || u)
-regroup true true true = refl
-regroup true true false = refl
-regroup true false true = refl
-regroup true false false = refl
-regroup false true true = refl
-regroup false true false = refl
-regroup false false true = refl
-regroup false false false = refl
+regroup a b u = or-comm u (a || b) ∙ ap (λ x. x || u) (or-comm a b) ∙ or-assoc b a u
 
 -- neither the one nor the other
 pub neither : (a b : Bool) → not b && not a ≡ not (a || b)
-neither true true = refl
-neither true false = refl
-neither false true = refl
-neither false false = refl
+neither true b = and-false (not b)
+neither false b = and-true (not b)
 
 module _ (c : Circuit) where
-  -- the two cases
-  pub ready-input : (j i v : ℕ) → v < firstGate (c .inputs) → isReady c j i v ≡ isUsedBefore c j v
-  unfolding isReady
-  ready-input j i v h = rw (lt-ltb v (firstGate (c .inputs)) h)
+  -- loaded before gate j or computed before gate i
+  abbrev pub isReady : (j i v : ℕ) → Bool
+  isReady j i v = isLoadedBefore c j v || isComputedBefore c i v
 
-  pub ready-gate : (j i v : ℕ) → firstGate (c .inputs) ≤ v → isReady c j i v ≡ ltb v (firstGate (c .inputs) + i)
-  unfolding isReady
+  pub ready-input : (j i v : ℕ) → v < firstGate (c .inputs) → isReady j i v ≡ isUsedBefore c j v
+  ready-input j i v h = rw (lt-ltb v (firstGate (c .inputs)) h) (or-false (isUsedBefore c j v))
+
+  pub ready-gate : (j i v : ℕ) → firstGate (c .inputs) ≤ v → isReady j i v ≡ ltb v (firstGate (c .inputs) + i)
   ready-gate j i v h = rw (le-ltb v (firstGate (c .inputs)) h)
 
-  pub ready-none : (v : ℕ) → isReady c 0 0 v ≡ false
+  pub ready-none : (v : ℕ) → isReady 0 0 v ≡ false
   unfolding isUsed
   ready-none v =
       elim (decLt v (firstGate (c .inputs))) [
@@ -53,11 +45,14 @@ module _ (c : Circuit) where
       ]
 
   -- of what is below gate i, the new ones are those that are not ready
-  pub unloaded-is : (i v : ℕ) → v < firstGate (c .inputs) + i → isUnloaded c i v ≡ not (isReady c i i v)
+  pub unloaded-is : (i v : ℕ) → v < firstGate (c .inputs) + i → isUnloaded c i v ≡ not (isReady i i v)
   unloaded-is i v h =
       elim (decLt v (firstGate (c .inputs))) [
-        | yes l ↦ rw (lt-ltb v (firstGate (c .inputs)) l, ready-input i i v l)
-        | no l ↦ rw (le-ltb v (firstGate (c .inputs)) (omega arith), ready-gate i i v (omega arith), lt-ltb v (firstGate (c .inputs) + i) h)
+        | yes l ↦ ap (λ b. b && not (isUsedBefore c i v)) (lt-ltb v (firstGate (c .inputs)) l) ∙ ap not (sym (ready-input i i v l))
+        | no l ↦
+            let low : firstGate (c .inputs) ≤ v = omega arith in
+            ap (λ b. b && not (isUsedBefore c i v)) (le-ltb v (firstGate (c .inputs)) low)
+            ∙ ap not (sym (ready-gate i i v low ∙ lt-ltb v (firstGate (c .inputs) + i) h))
       ]
 
   -- behind the last gate only outputs are wanted
@@ -78,7 +73,7 @@ module _ (c : Circuit) where
     pub right-low : g .right < n + i
     right-low = operands-low c (k .valid) i h .1
 
-    pub ready-operands : (v : ℕ) → isReady c (suc i) i v ≡ (eqb v (g .right) || (eqb v (g .left) || isReady c i i v))
+    pub ready-operands : (v : ℕ) → isReady (suc i) i v ≡ (eqb v (g .right) || (eqb v (g .left) || isReady i i v))
     ready-operands v =
         elim (decLt v n) [
           | yes l ↦
@@ -97,7 +92,7 @@ module _ (c : Circuit) where
             let b : v ≢ g .right = λ e. omega (arith, right-low) in
             rw (ne-eqb v (g .left) a, ne-eqb v (g .right) b)
 
-    pub ready-result : (v : ℕ) → isReady c (suc i) (suc i) v ≡ (eqb v (n + i) || isReady c (suc i) i v)
+    pub ready-result : (v : ℕ) → isReady (suc i) (suc i) v ≡ (eqb v (n + i) || isReady (suc i) i v)
     ready-result v =
         elim (decLt v n) [
           | yes l ↦
@@ -114,7 +109,7 @@ module _ (c : Circuit) where
         same (no e) (yes l) = rw (lt-ltb v (n + i) l, or-true (eqb v (n + i))) (lt-ltb v (n + suc i) (omega arith))
         same (no e) (no l) = rw (ne-eqb v (n + i) e, le-ltb v (n + i) (omega arith)) (le-ltb v (n + suc i) (omega arith))
 
-    pub result-new : isReady c (suc i) i (n + i) ≡ false
+    pub result-new : isReady (suc i) i (n + i) ≡ false
     result-new = ready-gate (suc i) i (n + i) (omega arith) ∙ le-ltb (n + i) (n + i) (omega arith)
 
     pub wanted-here : (v : ℕ) → isUsedFrom c i v ≡ (eqb v (g .left) || (eqb v (g .right) || isUsedFrom c (suc i) v))
@@ -130,8 +125,8 @@ module _ (c : Circuit) where
     right-wanted = wanted-here (g .right) ∙ rw (eq-eqb (g .right) (g .right) refl, or-true)
 
     -- and ready, once they are loaded
-    pub left-ready : isReady c (suc i) i (g .left) ≡ true
+    pub left-ready : isReady (suc i) i (g .left) ≡ true
     left-ready = ready-operands (g .left) ∙ rw (eq-eqb (g .left) (g .left) refl, or-true (eqb (g .left) (g .right)))
 
-    pub right-ready : isReady c (suc i) i (g .right) ≡ true
+    pub right-ready : isReady (suc i) i (g .right) ≡ true
     right-ready = ready-operands (g .right) ∙ rw (eq-eqb (g .right) (g .right) refl)

@@ -11,7 +11,7 @@ use lib.ListN.{length, set, getElem?, length-set, List·getD-eq-default}
 use borrow.Author.Tests.{ltb-true, eqb-true}
 use Rattle.lists.specs.First.{first}
 use Rattle.circuit.specs.Path.{isAmong}
-use Rattle.translator.specs.Machine.{Instruction, isLoad, isOperation, isEmit, Machine, readFrom, writeTo, emit, step, runFrom}
+use Rattle.translator.specs.Machine.{Instruction, isLoad, isOperation, isEmit, Machine, readFrom, writeTo, emit, execute, runFrom}
 use Rattle.translator.specs.Shape.{registersOf, registersIn}
 use Rattle.translator.proofs.OwnerLaws.{among-append}
 
@@ -84,9 +84,9 @@ module _ {A : Type 0} (start : List A) (op : ℕ → A → A → A) where
         let (a, p, q) = bind-eq-some-iff (readFrom m (i .arg1)) (λ a. some (emit m a)) .0 e in
         (below-cons _ (i .arg1) [] (read-within m (i .arg1) a p) (below-none _), ap (λ n. length (n .registers)) (sym (Option·some-injective (emit m a) m′ q)))
 
-    step-within : step start op i m ≡ some m′ → Within (registersOf i)
-    unfolding step registersOf
-    step-within = go (isLoad i) (isOperation i) (isEmit i)
+    execute-within : execute start op i m ≡ some m′ → Within (registersOf i)
+    unfolding execute registersOf
+    execute-within = go (isLoad i) (isOperation i) (isEmit i)
       where
         go : (l o e : Bool)
             → first l (bind (getElem? start (i .arg2)) (writeTo m (i .arg1)))
@@ -103,6 +103,6 @@ module _ {A : Type 0} (start : List A) (op : ℕ → A → A → A) where
   unfolding runFrom registersIn
   run-within [] m m′ e = below-none (length (m .registers))
   run-within (i ∷ is) m m′ e =
-      let (n, p, q) = bind-eq-some-iff (step start op i m) (runFrom start op is) .0 e in
-      let (b, l) = step-within i m n p in
+      let (n, p, q) = bind-eq-some-iff (execute start op i m) (runFrom start op is) .0 e in
+      let (b, l) = execute-within i m n p in
       below-append (length (m .registers)) (registersOf i) (registersIn is) b (rw l at (run-within is n m′ q))

@@ -1,6 +1,6 @@
 -- The machine runs what an allocation has written so far, over any values. Assumes nothing.
 use mathlib.Core.Path.{_≡_, refl, sym, ap, _∙_}
-use mathlib.Core.Logic.{_⊎_, inl, inr}
+use mathlib.Core.Logic.{inl, inr}
 use mathlib.Core.Bool.{Bool, true, false, _||_}
 use mathlib.Core.List.{List, [], _∷_, _++_, map, append-nil}
 use mathlib.Core.Option.{Option, none, some, bind}
@@ -16,7 +16,8 @@ use Rattle.circuit.specs.Circuit.{Gate, xorKind, andKind}
 use Rattle.circuit.specs.Path.{isAmong}
 use Rattle.circuit.proofs.RefusalLaws.{either}
 use Rattle.circuit.proofs.ValidLaws.{among-head, among-tail}
-use Rattle.translator.specs.Machine.{Instruction, loading, operating, emitting, Machine, emptyMachine, readFrom, step, runFrom}
+use Rattle.translator.specs.Machine.{Instruction, loading, operating, emitting, Machine, emptyMachine, readFrom, execute, runFrom}
+use Rattle.translator.specs.Fault.{Operates}
 use Rattle.translator.specs.Allocation.{Allocation, noRegisters, registerOf, nextRegister, ownersWith, assign, release, releaseOperands, loaded, operated}
 use Rattle.translator.specs.Program.{emits}
 use Rattle.translator.proofs.OwnerLaws.{register-at, freed-owner, Free, owners-next, owners-other, next-inside}
@@ -30,7 +31,7 @@ module _ {A : Type 0} (start : List A) (op : ℕ → A → A → A) where
   pub run-append : (is js : List Instruction) (m : Machine A) → runFrom start op (is ++ js) m ≡ bind (runFrom start op is m) (runFrom start op js)
   unfolding runFrom bind
   run-append [] js m = refl
-  run-append (i ∷ is) js m = go (step start op i m) (run-append is js)
+  run-append (i ∷ is) js m = go (execute start op i m) (run-append is js)
     where
       go : (r : Option (Machine A)) → ((m : Machine A) → runFrom start op (is ++ js) m ≡ bind (runFrom start op is m) (runFrom start op js))
           → bind r (runFrom start op (is ++ js)) ≡ bind (bind r (runFrom start op is)) (runFrom start op js)
@@ -40,25 +41,21 @@ module _ {A : Type 0} (start : List A) (op : ℕ → A → A → A) where
   -- ---- what each instruction does where it is no fault
 
   module _ (m : Machine A) (d : ℕ) (h : d < length (m .registers)) where
-    pub load-step : (v : ℕ) (x : A) → getElem? start v ≡ some x
-        → step start op (loading d v) m ≡ some (record { registers = set (m .registers) d (some x); emitted = m .emitted })
-    unfolding step bind
-    load-step v x e = rw (e, lt-ltb d (length (m .registers)) h)
+    pub load-executes : (v : ℕ) (x : A) → getElem? start v ≡ some x
+        → execute start op (loading d v) m ≡ some (record { registers = set (m .registers) d (some x); emitted = m .emitted })
+    unfolding execute bind
+    load-executes v x e = rw (e, lt-ltb d (length (m .registers)) h)
 
-    pub operate-step : (kind a b : ℕ) (x y : A) → eqb kind xorKind || eqb kind andKind ≡ true → readFrom m a ≡ some x → readFrom m b ≡ some y
-        → step start op (operating kind d a b) m ≡ some (record { registers = set (m .registers) d (some (op kind x y)); emitted = m .emitted })
-    unfolding step bind
-    operate-step kind a b x y k e f = go (either kind k)
-      where
-        go : (kind ≡ xorKind) ⊎ (kind ≡ andKind)
-            → step start op (operating kind d a b) m ≡ some (record { registers = set (m .registers) d (some (op kind x y)); emitted = m .emitted })
-        go (inl q) = rw (q, e, f, lt-ltb d (length (m .registers)) h)
-        go (inr q) = rw (q, e, f, lt-ltb d (length (m .registers)) h)
+    pub operation-executes : (kind a b : ℕ) (x y : A) → Operates kind → readFrom m a ≡ some x → readFrom m b ≡ some y
+        → execute start op (operating kind d a b) m ≡ some (record { registers = set (m .registers) d (some (op kind x y)); emitted = m .emitted })
+    unfolding execute bind
+    operation-executes kind a b x y (inl q) e f = rw (q, e, f, lt-ltb d (length (m .registers)) h)
+    operation-executes kind a b x y (inr q) e f = rw (q, e, f, lt-ltb d (length (m .registers)) h)
 
-  pub emit-step : (m : Machine A) (a : ℕ) (x : A) → readFrom m a ≡ some x
-      → step start op (emitting a) m ≡ some (record { registers = m .registers; emitted = m .emitted ++ (x ∷ []) })
-  unfolding step bind
-  emit-step m a x e = rw e
+  pub emit-executes : (m : Machine A) (a : ℕ) (x : A) → readFrom m a ≡ some x
+      → execute start op (emitting a) m ≡ some (record { registers = m .registers; emitted = m .emitted ++ (x ∷ []) })
+  unfolding execute bind
+  emit-executes m a x e = rw e
 
 -- ---- an allocation's code, run
 
@@ -94,7 +91,7 @@ module _ {A : Type 0} (start : List A) (op : ℕ → A → A → A) (limit : ℕ
       unfolding assign
       next-fits = omega (arith, next-inside v (s .owners) (s .freed) f, run .wide)
 
-      pub runs-assign : step start op (make d) (record { registers = r; emitted = [] }) ≡ some (record { registers = set r d (some (value v)); emitted = [] })
+      pub runs-assign : execute start op (make d) (record { registers = r; emitted = [] }) ≡ some (record { registers = set r d (some (value v)); emitted = [] })
           → Running (assign v make s) (set r d (some (value v)))
       unfolding assign runFrom bind
       runs-assign e =
@@ -113,7 +110,7 @@ module _ {A : Type 0} (start : List A) (op : ℕ → A → A → A) (limit : ℕ
   module _ (s : Allocation) (r : List (Option A)) (run : Running s r) where
     pub runs-load : (v : ℕ) → Free (s .owners) (s .freed) → length (loaded v s .owners) ≤ limit → getElem? start v ≡ some (value v)
         → Running (loaded v s) (set r (nextRegister (s .owners) (s .freed)) (some (value v)))
-    runs-load v f fits e = runs-assign s r run v _ f fits (load-step start op _ _ (next-fits s r run v _ f fits) v (value v) e)
+    runs-load v f fits e = runs-assign s r run v _ f fits (load-executes start op _ _ (next-fits s r run v _ f fits) v (value v) e)
 
     runs-releases : (w : ℕ → Bool) (g : Gate) → Running (releaseOperands w g s) r
     unfolding releaseOperands
@@ -128,8 +125,8 @@ module _ {A : Type 0} (start : List A) (op : ℕ → A → A → A) (limit : ℕ
         let u = releaseOperands w g s in
         let after = runs-releases w g in
         runs-assign u r after v _ f fits
-        (operate-step start op (record { registers = r; emitted = [] }) _ (next-fits u r after v _ f fits) (g .kind) (registerOf (s .owners) (g .left))
-        (registerOf (s .owners) (g .right)) (value (g .left)) (value (g .right)) k (runs-read s r run (g .left) l) (runs-read s r run (g .right) q)
+        (operation-executes start op (record { registers = r; emitted = [] }) _ (next-fits u r after v _ f fits) (g .kind) (registerOf (s .owners) (g .left))
+        (registerOf (s .owners) (g .right)) (value (g .left)) (value (g .right)) (either (g .kind) k) (runs-read s r run (g .left) l) (runs-read s r run (g .right) q)
         ∙ ap (λ x. some (record { registers = set r (nextRegister (u .owners) (u .freed)) (some x); emitted = [] })) (sym e))
 
   -- ---- the emits
@@ -140,6 +137,6 @@ module _ {A : Type 0} (start : List A) (op : ℕ → A → A → A) (limit : ℕ
   unfolding runFrom bind
   runs-emits ws r es [] h = ap (λ l. some (record { registers = r; emitted = l })) (sym (append-nil es))
   runs-emits ws r es (o ∷ os) h =
-      rw (emit-step start op (record { registers = r; emitted = es }) (registerOf ws o) (value o) (h o (among-head o os)))
+      rw (emit-executes start op (record { registers = r; emitted = es }) (registerOf ws o) (value o) (h o (among-head o os)))
       (runs-emits ws r (es ++ (value o ∷ [])) os (λ x e. h x (among-tail x o os e))
       ∙ ap (λ l. some (record { registers = r; emitted = l })) (append-snoc es (value o) (map value os)))

@@ -1,4 +1,4 @@
--- The program follows the steps, instruction by instruction; how many there are, and what they are as numbers. Assumes nothing.
+-- The program follows the actions, instruction by instruction; how many there are, and what they are as numbers. Assumes nothing.
 use mathlib.Core.Path.{_≡_, refl, sym, ap, ap₂, _∙_}
 use mathlib.Core.Logic.{_⊎_, inl, inr}
 use mathlib.Core.Bool.{Bool, true, false, _&&_, _||_}
@@ -13,21 +13,20 @@ use Rattle.circuit.specs.Circuit.{Gate, Circuit, firstGate, xorKind, andKind}
 use Rattle.circuit.specs.Each.{EachGate}
 use Rattle.circuit.specs.Path.{isAmong}
 use Rattle.circuit.specs.Refusal.{hasGateKind}
-use Rattle.circuit.specs.Trim.{rank}
-use Rattle.circuit.proofs.RankLaws.{rank-le}
 use Rattle.circuit.proofs.RefusalLaws.{either}
 use Rattle.circuit.proofs.ValidLaws.{Limited}
+use Rattle.translator.specs.Need.{countBelow}
 use Rattle.translator.specs.LiveRange.{isUsedFrom, isConstantOrInput}
 use Rattle.translator.specs.Machine.{Instruction, loading, operating, emitting}
-use Rattle.translator.specs.Steps.{Step, load, operate, steps, isRead, loadsOf, operationsOf}
+use Rattle.translator.specs.Actions.{Action, load, operate, actions, isRead, loadsOf, operationsOf}
 use Rattle.translator.specs.Allocation.{Allocation, noRegisters, registerOf, nextRegister, assign, release, releaseOperands, loaded, operated, allocate}
 use Rattle.translator.specs.Program.{emits, program, encodeProgram, instructionsOf, maxInstructions}
 use Rattle.translator.specs.Shape.{withoutRegisters, instructionOf}
-use Rattle.translator.proofs.CountLaws.{count-same}
+use Rattle.translator.proofs.CountLaws.{count-same, count-limit}
 use Rattle.translator.proofs.TrimmedLaws.{Trimmed}
-use Rattle.translator.proofs.LoadLaws.{steps-length, operations-steps, occurrences-count, steps-occurrences}
+use Rattle.translator.proofs.LoadLaws.{actions-length, operations-actions, occurrences-count, actions-occurrences}
 
--- ---- instructions and steps
+-- ---- instructions and actions
 
 shape-operation : (kind d a b : ℕ) → eqb kind xorKind || eqb kind andKind ≡ true → withoutRegisters (operating kind d a b) ≡ operating kind 0 0 0
 unfolding withoutRegisters
@@ -54,7 +53,7 @@ shape-last is i j rest e =
     ∙ ap (λ x. map withoutRegisters is ++ (x ∷ rest)) e
 
 module _ (outs : List ℕ) where
-  shape-allocate : (n : ℕ) (ss : List Step) (s : Allocation) → EachGate (λ m g. hasGateKind m g ≡ true) n (operationsOf ss)
+  shape-allocate : (n : ℕ) (ss : List Action) (s : Allocation) → EachGate (λ m g. hasGateKind m g ≡ true) n (operationsOf ss)
       → map withoutRegisters (allocate outs ss s .code) ≡ map withoutRegisters (s .code) ++ map instructionOf ss
   unfolding allocate operationsOf assign withoutRegisters
   shape-allocate n [] s k = sym (append-nil (map withoutRegisters (s .code)))
@@ -74,30 +73,30 @@ shape-emits ws [] = refl
 shape-emits ws (o ∷ os) = ap (λ l. emitting 0 ∷ l) (shape-emits ws os)
 
 module _ (c : Circuit) (k : Trimmed c) where
-  pub program-shape : map withoutRegisters (program c) ≡ map instructionOf (steps c) ++ replicate (length (c .outputs)) (emitting 0)
+  pub program-shape : map withoutRegisters (program c) ≡ map instructionOf (actions c) ++ replicate (length (c .outputs)) (emitting 0)
   unfolding program
   program-shape =
-      let s = allocate (c .outputs) (steps c) noRegisters in
+      let s = allocate (c .outputs) (actions c) noRegisters in
       map-append withoutRegisters (s .code) (emits (s .owners) (c .outputs))
-      ∙ ap₂ _++_ (shape-allocate (c .outputs) (firstGate (c .inputs)) (steps c) noRegisters (rw (operations-steps c) (k .valid .kinds))) (shape-emits (s .owners) (c .outputs))
+      ∙ ap₂ _++_ (shape-allocate (c .outputs) (firstGate (c .inputs)) (actions c) noRegisters (rw (operations-actions c) (k .valid .kinds))) (shape-emits (s .owners) (c .outputs))
 
-  loads-count : length (loadsOf (steps c)) ≡ rank (isUsedFrom c 0) (firstGate (c .inputs))
+  loads-count : length (loadsOf (actions c)) ≡ countBelow (isUsedFrom c 0) (firstGate (c .inputs))
   loads-count =
       let n = firstGate (c .inputs) in
-      occurrences-count (loadsOf (steps c)) (λ v. isConstantOrInput c v && isUsedFrom c 0 v) n
-      (λ v e. ltb-true v n (left-of (isConstantOrInput c v) (isUsedFrom c 0 v) e)) (steps-occurrences c)
+      occurrences-count (loadsOf (actions c)) (λ v. isConstantOrInput c v && isUsedFrom c 0 v) n
+      (λ v e. ltb-true v n (left-of (isConstantOrInput c v) (isUsedFrom c 0 v) e)) (actions-occurrences c)
       ∙ count-same _ _ n (λ v l. rw (lt-ltb v n l))
 
   -- one instruction for each used constant or input, each gate and each output
-  pub program-length : length (program c) ≡ rank (isUsedFrom c 0) (firstGate (c .inputs)) + length (c .gates) + length (c .outputs)
+  pub program-length : length (program c) ≡ countBelow (isUsedFrom c 0) (firstGate (c .inputs)) + length (c .gates) + length (c .outputs)
   program-length =
       sym (length-map (program c) withoutRegisters) ∙ ap length program-shape
-      ∙ length-append (map instructionOf (steps c)) (replicate (length (c .outputs)) (emitting 0))
-      ∙ omega (arith, length-map (steps c) instructionOf, length-replicate (length (c .outputs)) (emitting 0), steps-length (steps c), loads-count, ap length (operations-steps c))
+      ∙ length-append (map instructionOf (actions c)) (replicate (length (c .outputs)) (emitting 0))
+      ∙ omega (arith, length-map (actions c) instructionOf, length-replicate (length (c .outputs)) (emitting 0), actions-length (actions c), loads-count, ap length (operations-actions c))
 
   pub program-limit : Limited c → length (program c) ≤ maxInstructions
   program-limit l =
-      omega (arith, program-length, rank-le (isUsedFrom c 0) (firstGate (c .inputs)), l .inputs-limit, l .gates-limit, l .outputs-limit)
+      omega (arith, program-length, count-limit (isUsedFrom c 0) (firstGate (c .inputs)), l .inputs-limit, l .gates-limit, l .outputs-limit)
 
 -- ---- instructions as numbers
 

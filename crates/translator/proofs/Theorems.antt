@@ -1,32 +1,36 @@
 -- The theorems about the register program. Assumes nothing.
-use mathlib.Core.Path.{_≡_, sym, ap, ap₂, _∙_}
-use mathlib.Core.List.{_++_, append-assoc}
+use mathlib.Core.Path.{_≡_, refl, sym, ap, ap₂, _∙_}
+use mathlib.Core.List.{List, [], _∷_, _++_, map, append-assoc}
 use mathlib.Core.Option.{Option, none, some, bind-eq-some-iff}
 use Prim.Native.Nat.{ℕ, suc}
+use native.Mathlib.Nat.{le-trans}
 use native.Mathlib.Omega.{arith}
 use lib.ListN.{length, drop, getD, replicate, length-replicate}
 use lib.Seq.{drop-cons, drop-length, take-length}
 use Rattle.circuit.specs.Circuit.{firstGate, references, noGate}
+use Rattle.circuit.specs.Evaluation.{bitOp, bitOf}
 use Rattle.circuit.specs.Table.{inputs, decode}
 use Rattle.circuit.specs.Depth.{largest, circuitDepth}
 use Rattle.circuit.specs.Path.{isAmong, isOutput}
 use Rattle.circuit.specs.Trim.{trim}
-use Rattle.circuit.proofs.RankLaws.{rank-lt}
 use Rattle.circuit.proofs.RefusalLaws.{accepted-is-well-formed}
 use Rattle.circuit.proofs.ValidLaws.{valid-decode, limited-decode}
 use Rattle.circuit.proofs.TrimLaws.{trim-limited, trim-outputs}
 use Rattle.translator.specs.Machine.{emptyMachine, runFrom, run}
 use Rattle.translator.specs.LeveledBit.{LeveledBit, leveledOp, atLevelZero, startLeveled, runOn}
 use Rattle.translator.specs.Need.{need}
-use Rattle.translator.specs.Steps.{operandLoads, stepsFrom}
+use Rattle.translator.specs.Actions.{operandLoads, actionsFrom}
 use Rattle.translator.specs.Program.{program, encodeProgram, instructionsOf}
-use Rattle.translator.specs.Theorems.{RunWithinLimit, InstructionsAfterEncode, LastUseDecides, PressureIsNeed, AllocatorIsProgram, ProgramComputes, ProgramEmitsOutputs, NeedIsSome, RegistersWithinNeed, ProgramFollowsSteps, ProgramCount, StepsOperateInOrder, StepsLoadOnce, StepsLoadAtFirstUse, StepsLoadForOutputs, ValuesAreHeld, TranslationRuns}
+use Rattle.translator.specs.Theorems.{RunWithinLimit, InstructionDoes, InstructionFaults, BitsAndLevels, InstructionsAfterEncode, LastUseDecides, PressureIsNeed, AllocatorIsProgram, ProgramComputes, ProgramEmitsOutputs, NeedIsSome, RegistersWithinNeed, ProgramFollowsActions, ProgramCount, ActionsOperateInOrder, ActionsLoadOnce, ActionsLoadAtFirstUse, ActionsLoadForOutputs, ValuesAreHeld, TranslationRuns}
+use Rattle.translator.proofs.CountLaws.{count-some}
 use Rattle.translator.proofs.TrimmedLaws.{trimmed-of}
 use Rattle.translator.proofs.PressureLaws.{linear-need, outputs-need}
 use Rattle.translator.proofs.OwnerLaws.{among-element}
+use Rattle.translator.proofs.RunLaws.{load-executes, operation-executes, emit-executes}
+use Rattle.translator.proofs.FaultLaws.{full, fault-executes, executes-fault}
 use Rattle.translator.proofs.ComputeLaws.{end-computes}
-use Rattle.translator.proofs.StepLaws.{end-is-program}
-use Rattle.translator.proofs.LoadLaws.{operations-steps, steps-split, output-operations, operand-occurrences, output-occurrences, steps-occurrences}
+use Rattle.translator.proofs.ActionLaws.{end-is-program}
+use Rattle.translator.proofs.LoadLaws.{operations-actions, actions-split, output-operations, operand-occurrences, output-occurrences, actions-occurrences}
 use Rattle.translator.proofs.ShapeLaws.{program-shape, program-length, program-limit, instructions-encode}
 use Rattle.translator.proofs.RegisterLaws.{run-within}
 use Rattle.translator.proofs.LeveledLaws.{leveled-length, leveledOutputs, emitted-bits, emitted-levels}
@@ -36,6 +40,24 @@ use Rattle.translator.proofs.LastUseLaws.{used-from}
 use Rattle.translator.proofs.CallLaws.{translation-is}
 
 -- ---- the machine
+
+pub instruction-does : InstructionDoes
+instruction-does A start op m = (
+  λ d r v h e. load-executes start op m d h r v e,
+  λ kind d a b v w k h e f. operation-executes start op m d h kind a b v w k (full (m .registers) a (some v) e) (full (m .registers) b (some w) f),
+  λ a v e. emit-executes start op m a v (full (m .registers) a (some v) e),
+)
+
+pub instruction-faults : InstructionFaults
+instruction-faults A start op m o x y z = (executes-fault start op m o x y z, fault-executes start op m o x y z)
+
+pub bits-and-levels : BitsAndLevels
+unfolding bitOp
+bits-and-levels = (λ a b. refl, λ a b. refl, λ bytes. ap (λ l. atLevelZero 0 ∷ atLevelZero 1 ∷ l) (go bytes))
+  where
+    go : (bytes : List ℕ) → map atLevelZero (map bitOf bytes) ≡ map (λ byte. atLevelZero (bitOf byte)) bytes
+    go [] = refl
+    go (byte ∷ bytes) = ap (λ l. atLevelZero (bitOf byte) ∷ l) (go bytes)
 
 pub run-within-limit : RunWithinLimit
 unfolding run
@@ -85,7 +107,7 @@ need-is-some t w =
     let k = trimmed-of t w in
     let o = getD (c .outputs) 0 0 in
     let among = among-element (c .outputs) 0 (trim-limited (decode t) (valid-decode t w) (limited-decode t (w .sized)) .outputs-some) in
-    omega (arith, rank-lt (isOutput c) o (references c) among (k .valid .outputs-below o among), outputs-need c k)
+    le-trans (count-some (isOutput c) o (references c) (k .valid .outputs-below o among) among) (outputs-need c k)
 
 pub registers-within-need : RegistersWithinNeed
 registers-within-need t w d h =
@@ -94,10 +116,10 @@ registers-within-need t w d h =
     let (es, e, bits, levels, top) = program-emits-outputs t w bytes (length-replicate {A = ℕ} (inputs t) 0) (need c) (omega arith) in
     run-within-limit LeveledBit (startLeveled bytes) leveledOp (need c) (program c) es e d h
 
--- ---- the steps
+-- ---- the actions
 
-pub program-follows-steps : ProgramFollowsSteps
-program-follows-steps t w = program-shape (trim (decode t)) (trimmed-of t w)
+pub program-follows-actions : ProgramFollowsActions
+program-follows-actions t w = program-shape (trim (decode t)) (trimmed-of t w)
 
 pub program-count : ProgramCount
 unfolding trim
@@ -106,31 +128,31 @@ program-count t w =
     let k = trimmed-of t w in
     (program-length c k, program-limit c k (trim-limited (decode t) (valid-decode t w) (limited-decode t (w .sized))))
 
-pub steps-operate-in-order : StepsOperateInOrder
-steps-operate-in-order = operations-steps
+pub actions-operate-in-order : ActionsOperateInOrder
+actions-operate-in-order = operations-actions
 
-pub steps-load-once : StepsLoadOnce
-steps-load-once = steps-occurrences
+pub actions-load-once : ActionsLoadOnce
+actions-load-once = actions-occurrences
 
-pub steps-load-at-first-use : StepsLoadAtFirstUse
-unfolding stepsFrom
-steps-load-at-first-use c i h =
+pub actions-load-at-first-use : ActionsLoadAtFirstUse
+unfolding actionsFrom
+actions-load-at-first-use c i h =
     let g = getD (c .gates) i noGate in
-    let (before, e, q) = steps-split c i (omega arith) in (
+    let (before, e, q) = actions-split c i (omega arith) in (
       before,
-      stepsFrom c (suc i) (drop (suc i) (c .gates)),
-      e ∙ ap (λ gs. before ++ stepsFrom c i gs) (drop-cons (c .gates) i noGate h) ∙ sym (append-assoc before (operandLoads c i g) _),
+      actionsFrom c (suc i) (drop (suc i) (c .gates)),
+      e ∙ ap (λ gs. before ++ actionsFrom c i gs) (drop-cons (c .gates) i noGate h) ∙ sym (append-assoc before (operandLoads c i g) _),
       q,
       λ v. operand-occurrences c v i g,
     )
 
-pub steps-load-for-outputs : StepsLoadForOutputs
-unfolding stepsFrom isAmong
-steps-load-for-outputs c =
+pub actions-load-for-outputs : ActionsLoadForOutputs
+unfolding actionsFrom isAmong
+actions-load-for-outputs c =
     let n = length (c .gates) in
-    let (before, e, q) = steps-split c n (omega arith) in (
+    let (before, e, q) = actions-split c n (omega arith) in (
       before,
-      e ∙ ap (λ gs. before ++ stepsFrom c n gs) (drop-length (c .gates)),
+      e ∙ ap (λ gs. before ++ actionsFrom c n gs) (drop-length (c .gates)),
       q ∙ take-length (c .gates),
       output-operations c 0 (c .outputs),
       λ v. output-occurrences c v (length (c .outputs)) 0 (omega arith),

@@ -9,7 +9,7 @@ use Rattle.lists.specs.First.{first}
 use Rattle.circuit.specs.Circuit.{Gate}
 use Rattle.circuit.specs.Path.{isAmong}
 use Rattle.translator.specs.Machine.{Instruction, loading, operating}
-use Rattle.translator.specs.Steps.{Step, load, operate, isRead}
+use Rattle.translator.specs.Actions.{Action, load, operate, isRead}
 
 -- `owners` has a place for each register used so far: 0 if the register is free, else 1 more than the reference whose value it holds.
 -- `freed` is the stack of free registers, the one freed last on top. `code` is the program so far.
@@ -54,9 +54,16 @@ release true v s = s
 release false v s =
     record { owners = set (s .owners) (registerOf (s .owners) v) 0; freed = registerOf (s .owners) v ∷ s .freed; code = s .code }
 
--- both operands of a gate, where `wanted` says what is used after it; two equal operands are one value
+-- the left operand of a gate, and then the right one, where `wanted` says what is used after it; two equal operands are one value, which goes
+-- as the right one
+abbrev pub releaseLeft : (wanted : ℕ → Bool) → Gate → Allocation → Allocation
+releaseLeft wanted g s = release (eqb (g .left) (g .right) || wanted (g .left)) (g .left) s
+
+abbrev pub releaseRight : (wanted : ℕ → Bool) → Gate → Allocation → Allocation
+releaseRight wanted g s = release (wanted (g .right)) (g .right) s
+
 unfoldable pub releaseOperands : (wanted : ℕ → Bool) → Gate → Allocation → Allocation
-releaseOperands wanted g s = release (wanted (g .right)) (g .right) (release (eqb (g .left) (g .right) || wanted (g .left)) (g .left) s)
+releaseOperands wanted g s = let between = releaseLeft wanted g s in releaseRight wanted g between
 
 -- the load of v
 abbrev pub loaded : (v : ℕ) → Allocation → Allocation
@@ -67,8 +74,8 @@ abbrev pub operated : (wanted : ℕ → Bool) (v : ℕ) → Gate → Allocation 
 operated wanted v g s =
     assign v (λ d. operating (g .kind) d (registerOf (s .owners) (g .left)) (registerOf (s .owners) (g .right))) (releaseOperands wanted g s)
 
--- the steps in order; what the steps behind it read, or is an output, is kept
-unfoldable pub allocate : (outputs : List ℕ) → List Step → Allocation → Allocation
+-- the actions in order; what the actions behind it read, or is an output, is kept
+unfoldable pub allocate : (outputs : List ℕ) → List Action → Allocation → Allocation
 allocate outputs [] s = s
 allocate outputs (load v ∷ ss) s = allocate outputs ss (loaded v s)
 allocate outputs (operate v g ∷ ss) s = allocate outputs ss (operated (λ r. isRead r ss || isAmong r outputs) v g s)

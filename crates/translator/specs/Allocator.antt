@@ -1,6 +1,7 @@
 -- The allocation as loops over the gates and outputs compute it: whether a value is loaded already is seen from the registers, and what is
 -- used later from the gates that follow. That the program is the same: `AllocatorIsProgram` in Theorems.antt.
 use Prim.Native.Nat.{ℕ, zero, suc, _+_}
+use mathlib.Core.Bool.{Bool}
 use lib.ListN.{length, getD}
 use Rattle.lists.specs.First.{first}
 use Rattle.circuit.specs.Circuit.{Gate, Circuit, noGate, firstGate}
@@ -16,9 +17,13 @@ ensureLoaded v s = first (isAmong (suc v) (s .owners)) s (loaded v s)
 abbrev pub ensureOperands : Gate → Allocation → Allocation
 ensureOperands g s = ensureLoaded (g .right) (ensureLoaded (g .left) s)
 
+-- gate g, of reference v: its operands are loaded, then its operation is done
+abbrev pub turned : (wanted : ℕ → Bool) (v : ℕ) → Gate → Allocation → Allocation
+turned wanted v g s = operated wanted v g (ensureOperands g s)
+
 -- gate i, which is g
 unfoldable pub gateTurn : Circuit → (i : ℕ) → Gate → Allocation → Allocation
-gateTurn c i g s = operated (isUsedFrom c (suc i)) (firstGate (c .inputs) + i) g (ensureOperands g s)
+gateTurn c i g s = turned (isUsedFrom c (suc i)) (firstGate (c .inputs) + i) g s
 
 -- after the first i gates
 unfoldable pub allocationAfter : Circuit → (i : ℕ) → Allocation

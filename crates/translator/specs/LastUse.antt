@@ -1,7 +1,9 @@
 -- The last use of each reference, as loops over the gates and outputs compute it. That `isUsedFrom` is a compare with it:
 -- `LastUseDecides` in Theorems.antt.
 use Prim.Native.Nat.{ℕ, zero, suc, _+_}
+use mathlib.Core.Bool.{Bool}
 use mathlib.Core.List.{List, [], _∷_}
+use lib.Dec.{ltb}
 use lib.ListN.{length, getD}
 use Rattle.lists.specs.First.{first}
 use Rattle.circuit.specs.Circuit.{Gate, Circuit, noGate}
@@ -15,6 +17,10 @@ lastGate gs (suc k) v = first (isOperand v (getD gs k noGate)) (suc k) (lastGate
 -- an output is used behind all gates
 unfoldable pub lastUse : Circuit → (v : ℕ) → ℕ
 lastUse c v = first (isOutput c v) (suc (length (c .gates))) (lastGate (c .gates) (length (c .gates)) v)
+
+-- whether v is used behind the gate of that number, counted from 1, where `last` has the last uses
+abbrev pub isUsedBehind : (last : List ℕ) (number v : ℕ) → Bool
+isUsedBehind last number v = ltb number (getD last v 0)
 
 -- how many different references there are among the outputs, from the last output to the first
 unfoldable pub countDistinct : List ℕ → ℕ

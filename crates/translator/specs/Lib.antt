@@ -1,8 +1,9 @@
 pub mod Machine
+pub mod Fault
 pub mod LeveledBit
 pub mod LiveRange
 pub mod Need
-pub mod Steps
+pub mod Actions
 pub mod Allocation
 pub mod Program
 pub mod LastUse

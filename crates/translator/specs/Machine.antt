@@ -23,7 +23,7 @@ emitOpcode = 3
 abbrev pub loadOpcode : ℕ
 loadOpcode = 4
 
--- the three shapes that an instruction can have; any other is a fault
+-- the three shapes that an instruction can have, where a kind is 1 or 2; any other is a fault
 abbrev pub loading : (d reference : ℕ) → Instruction
 loading d reference = record { opcode = loadOpcode; arg1 = d; arg2 = reference; arg3 = 0 }
 
@@ -70,8 +70,8 @@ emit m v = record { registers = m .registers; emitted = m .emitted ++ (v ∷ [])
 
 -- 01, Register program, 2 to 4: what an instruction does; `none` is a fault. Only constants and inputs are in `start`; both operands are
 -- read before anything is written.
-unfoldable pub step : {A : Type 0} (start : List A) (op : ℕ → A → A → A) → Instruction → Machine A → Option (Machine A)
-step start op i m =
+unfoldable pub execute : {A : Type 0} (start : List A) (op : ℕ → A → A → A) → Instruction → Machine A → Option (Machine A)
+execute start op i m =
     first (isLoad i) (bind (getElem? start (i .arg2)) (writeTo m (i .arg1)))
     (first (isOperation i) (bind (readFrom m (i .arg2)) (λ a. bind (readFrom m (i .arg3)) (λ b. writeTo m (i .arg1) (op (i .opcode) a b))))
     (first (isEmit i) (bind (readFrom m (i .arg1)) (λ a. some (emit m a)))
@@ -80,7 +80,7 @@ step start op i m =
 -- 01, Register program, 4 and 6: one instruction after the other, up to the last or to a fault
 unfoldable pub runFrom : {A : Type 0} (start : List A) (op : ℕ → A → A → A) → List Instruction → Machine A → Option (Machine A)
 runFrom start op [] m = some m
-runFrom start op (i ∷ is) m = bind (step start op i m) (runFrom start op is)
+runFrom start op (i ∷ is) m = bind (execute start op i m) (runFrom start op is)
 
 -- what a run with `limit` registers emits, in order; none if it ends in a fault
 unfoldable pub run : {A : Type 0} (start : List A) (op : ℕ → A → A → A) → (limit : ℕ) → List Instruction → Option (List A)

@@ -1,4 +1,4 @@
--- 01, Register program, 9: a moment of the program's run, over any values.
+-- 01, Register program, 9 and 10: a moment of the program's run, over any values.
 use Prim.Native.Nat.{ℕ}
 use mathlib.Core.Path.{_≡_}
 use mathlib.Core.Bool.{Bool, true}

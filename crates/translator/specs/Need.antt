@@ -1,18 +1,23 @@
 -- 01, Register program, 10: the need, which is the circuit's register pressure.
-use Prim.Native.Nat.{ℕ, max}
+use Prim.Native.Nat.{ℕ, zero, suc, _+_, max}
 use mathlib.Core.Bool.{Bool}
 use lib.ListN.{length}
+use Rattle.lists.specs.First.{first}
 use Rattle.lists.specs.Below.{mapBelow}
 use Rattle.circuit.specs.Circuit.{Circuit, references}
 use Rattle.circuit.specs.Depth.{largest}
-use Rattle.circuit.specs.Trim.{rank}
 use Rattle.translator.specs.LiveRange.{isHeldBefore, isHeldAfter, isHeldAtEnd}
 
--- how many references pass a test; each is one value, however many outputs have it
-abbrev pub countReferences : Circuit → (test : ℕ → Bool) → ℕ
-countReferences c test = rank test (references c)
+-- how many of the numbers below n pass a test
+unfoldable pub countBelow : (test : ℕ → Bool) → (n : ℕ) → ℕ
+countBelow test zero = 0
+countBelow test (suc n) = countBelow test n + first (test n) 1 0
 
--- the more of the values held just before gate i's operation and just after it
+-- how many references do; each is one value, however many outputs have it
+abbrev pub countReferences : Circuit → (test : ℕ → Bool) → ℕ
+countReferences c test = countBelow test (references c)
+
+-- how many values are held just before gate i's operation or just after it, whichever are more
 abbrev pub heldAround : Circuit → (i : ℕ) → ℕ
 heldAround c i = max (countReferences c (isHeldBefore c i)) (countReferences c (isHeldAfter c i))
 

@@ -6,7 +6,7 @@ use lib.ListN.{length, getD}
 use Rattle.lists.specs.First.{first}
 use Rattle.circuit.specs.Circuit.{Gate, Circuit, noGate}
 use Rattle.translator.specs.LiveRange.{isUsedFrom}
-use Rattle.translator.specs.Steps.{isUnloaded}
+use Rattle.translator.specs.Actions.{isUnloaded}
 use Rattle.translator.specs.LastUse.{countDistinct}
 
 -- how many values are held between two gates, and the most so far
@@ -26,16 +26,16 @@ unfoldable pub departures : Circuit → (i : ℕ) → Gate → ℕ
 departures c i g =
     oneIf (not (eqb (g .left) (g .right) || isUsedFrom c (suc i) (g .left))) + oneIf (not (isUsedFrom c (suc i) (g .right)))
 
--- a gate with `arrive` loads and `depart` last uses, whose result is one value more
-abbrev pub pressureStep : (arrive depart : ℕ) → Pressure → Pressure
-pressureStep arrive depart p =
+-- behind a gate with `arrive` loads and `depart` last uses, whose result is one value more
+abbrev pub pressureBehind : (arrive depart : ℕ) → Pressure → Pressure
+pressureBehind arrive depart p =
     record { held = p .held + arrive - depart + 1; most = max (max (p .most) (p .held + arrive)) (p .held + arrive - depart + 1) }
 
 -- after the first i gates
 unfoldable pub pressureAfter : Circuit → (i : ℕ) → Pressure
 pressureAfter c zero = record { held = 0; most = 0 }
 pressureAfter c (suc i) =
-    pressureStep (arrivals c i (getD (c .gates) i noGate)) (departures c i (getD (c .gates) i noGate)) (pressureAfter c i)
+    pressureBehind (arrivals c i (getD (c .gates) i noGate)) (departures c i (getD (c .gates) i noGate)) (pressureAfter c i)
 
 -- before the first emit, the outputs' values are held
 unfoldable pub linearNeed : Circuit → ℕ

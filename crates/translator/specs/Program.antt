@@ -2,21 +2,21 @@
 use Prim.Native.Nat.{ℕ, zero, suc, _+_}
 use mathlib.Core.List.{List, [], _∷_, _++_, map}
 use lib.ListN.{getD, drop}
-use Rattle.circuit.specs.Circuit.{Circuit, maxInputs, maxGates, maxOutputs, firstGate}
+use Rattle.circuit.specs.Circuit.{Circuit, maxOutputs, maxReferences}
 use Rattle.translator.specs.Machine.{Instruction, emitting}
-use Rattle.translator.specs.Steps.{steps}
+use Rattle.translator.specs.Actions.{actions}
 use Rattle.translator.specs.Allocation.{Allocation, noRegisters, registerOf, allocate}
 
 -- one emit an output, in order
 abbrev pub emits : (owners outputs : List ℕ) → List Instruction
 emits owners outputs = map (λ o. emitting (registerOf owners o)) outputs
 
--- the steps with registers, and then the emits
+-- the actions with registers, and then the emits
 abbrev pub withEmits : Circuit → Allocation → List Instruction
 withEmits c s = s .code ++ emits (s .owners) (c .outputs)
 
 unfoldable pub program : Circuit → List Instruction
-program c = withEmits c (allocate (c .outputs) (steps c) noRegisters)
+program c = withEmits c (allocate (c .outputs) (actions c) noRegisters)
 
 -- instructions as numbers, four each; and the first n instructions of such a list
 unfoldable pub encodeProgram : List Instruction → List ℕ
@@ -30,4 +30,4 @@ instructionsOf (suc n) p =
 
 -- no program has more instructions than there can be constants, inputs, gates and outputs
 abbrev pub maxInstructions : ℕ
-maxInstructions = firstGate maxInputs + maxGates + maxOutputs
+maxInstructions = maxReferences + maxOutputs

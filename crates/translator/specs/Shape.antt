@@ -4,7 +4,7 @@ use mathlib.Core.List.{List, [], _∷_, _++_}
 use lib.Dec.{eqb}
 use Rattle.lists.specs.First.{first}
 use Rattle.translator.specs.Machine.{Instruction, loading, operating, emitting, isLoad, isOperation, isEmit}
-use Rattle.translator.specs.Steps.{Step, load, operate}
+use Rattle.translator.specs.Actions.{Action, load, operate}
 
 -- an instruction without its registers, which are written as 0
 unfoldable pub withoutRegisters : Instruction → Instruction
@@ -14,8 +14,8 @@ withoutRegisters i =
     (first (isEmit i) (emitting 0)
     i))
 
--- the instruction of a step, without registers
-abbrev pub instructionOf : Step → Instruction
+-- the instruction of an action, without registers
+abbrev pub instructionOf : Action → Instruction
 instructionOf (load v) = loading 0 v
 instructionOf (operate v g) = operating (g .kind) 0 0 0
 

@@ -1,14 +1,17 @@
 -- The theorems about the register program, as statements; each is proved under its name in proofs/. Circuits are those of well-formed
 -- tables, trimmed as the translator trims them first.
-use Prim.Native.Nat.{ℕ, suc, _+_, _*_, _≤_, _<_}
+use Prim.Native.Nat.{ℕ, suc, _+_, _*_, _≤_, _<_, max}
 use mathlib.Core.Path.{_≡_}
+use mathlib.Core.Logic.{_↔_}
 use mathlib.Core.Bool.{true, _&&_}
 use mathlib.Core.List.{List, [], _∷_, _++_, map}
-use mathlib.Core.Option.{some}
-use lib.Dec.{ltb}
-use lib.ListN.{length, take, getD, replicate}
+use mathlib.Core.Option.{none, some}
+use lib.Bits.{bitAnd, bitXor}
+use lib.Dec.{eqb, ltb}
+use lib.ListN.{length, take, getD, set, replicate, getElem?}
+use Rattle.lists.specs.First.{first}
 use Rattle.lines.specs.Refusal.{refused, gives, noTable, leaving}
-use Rattle.circuit.specs.Circuit.{Circuit, firstGate, noGate}
+use Rattle.circuit.specs.Circuit.{Circuit, xorKind, andKind, firstGate, noGate}
 use Rattle.circuit.specs.Table.{inputs, decode, encode}
 use Rattle.circuit.specs.Refusal.{refusal}
 use Rattle.circuit.specs.WellFormed.{WellFormed}
@@ -16,16 +19,17 @@ use Rattle.circuit.specs.Fold.{foldGates, atOutputs}
 use Rattle.circuit.specs.Evaluation.{evaluate}
 use Rattle.circuit.specs.Depth.{depth, largest, circuitDepth}
 use Rattle.circuit.specs.Path.{isAmong, isOperand, isOutput}
-use Rattle.circuit.specs.Trim.{rank, trim}
+use Rattle.circuit.specs.Trim.{trim}
 use Rattle.rules.specs.RuleRefusal.{rulesRefusal}
 use Rattle.rules.specs.SiteTable.{siteCount, sitesRefusal}
-use Rattle.rewriting.specs.Run.{zeros, allVerdicts}
+use Rattle.rewriting.specs.Run.{zeros, handedBack, allVerdicts}
 use Rattle.rewriting.specs.RewriteCall.{rewriting}
-use Rattle.translator.specs.Machine.{Instruction, emitting, maxRegisters, run}
-use Rattle.translator.specs.LeveledBit.{LeveledBit, runOn}
+use Rattle.translator.specs.Machine.{Instruction, emitOpcode, loadOpcode, emitting, Machine, maxRegisters, execute, run}
+use Rattle.translator.specs.Fault.{numbers, Operates, Holds, Fault}
+use Rattle.translator.specs.LeveledBit.{LeveledBit, leveledOp, atLevelZero, startLeveled, runOn}
 use Rattle.translator.specs.LiveRange.{isUsedFrom, isConstantOrInput, isHeldBefore, isHeldAfter, isHeldAtEnd}
-use Rattle.translator.specs.Need.{need}
-use Rattle.translator.specs.Steps.{Step, operate, isUnloaded, operandLoads, outputLoads, steps, loadsOf, operationsOf}
+use Rattle.translator.specs.Need.{countBelow, need}
+use Rattle.translator.specs.Actions.{Action, operate, isUnloaded, operandLoads, outputLoads, actions, loadsOf, operationsOf}
 use Rattle.translator.specs.Program.{program, withEmits, encodeProgram, instructionsOf, maxInstructions}
 use Rattle.translator.specs.LastUse.{lastUse}
 use Rattle.translator.specs.Pressure.{oneIf, linearNeed}
@@ -33,9 +37,35 @@ use Rattle.translator.specs.Allocator.{allocationAfter, allocationBefore
 use Rattle.translator.specs.Shape.{withoutRegisters, instructionOf, registersIn, occurrences}
 use Rattle.translator.specs.Moment.{Holding}
 use Rattle.translator.specs.TranslateCall.{programNumbers, translating}
-use Rattle.translator.specs.SafeDelivery.{SafeDelivery, handedBack}
+use Rattle.translator.specs.SafeDelivery.{SafeDelivery}
 
 -- ---- the machine, over any values
+
+-- 01, Register program, 2 and 3: what an instruction does where it is no fault. A load puts the value of a constant or input into d, an
+-- operation that of its two operands, and an emit emits what its register holds.
+abbrev pub InstructionDoes : Type 1
+InstructionDoes =
+    (A : Type 0) (start : List A) (op : ℕ → A → A → A) (m : Machine A)
+    → ((d reference : ℕ) (v : A) → d < length (m .registers) → getElem? start reference ≡ some v
+    → execute start op (numbers loadOpcode d reference 0) m ≡ some (record { registers = set (m .registers) d (some v); emitted = m .emitted }))
+    × ((kind d a b : ℕ) (v w : A) → Operates kind → d < length (m .registers) → Holds m a v → Holds m b w
+    → execute start op (numbers kind d a b) m ≡ some (record { registers = set (m .registers) d (some (op kind v w)); emitted = m .emitted }))
+    × ((a : ℕ) (v : A) → Holds m a v
+    → execute start op (numbers emitOpcode a 0 0) m ≡ some (record { registers = m .registers; emitted = m .emitted ++ (v ∷ []) }))
+
+-- 01, Register program, 4: an instruction is a fault exactly for one of the causes named there.
+abbrev pub InstructionFaults : Type 1
+InstructionFaults =
+    (A : Type 0) (start : List A) (op : ℕ → A → A → A) (m : Machine A) (o x y z : ℕ)
+    → (execute start op (numbers o x y z) m ≡ none) ↔ Fault start m o x y z
+
+-- 01, Register program, 2 and 5, of bits and levels: XOR has the larger level, AND that plus 1; what is loaded is at level 0, the constants' bits
+-- are 0 and 1, and an input's is that of its byte.
+abbrev pub BitsAndLevels : Type 0
+BitsAndLevels =
+    ((a b : LeveledBit) → leveledOp xorKind a b ≡ record { bit = bitXor (a .bit) (b .bit); level = max (a .level) (b .level) })
+    × ((a b : LeveledBit) → leveledOp andKind a b ≡ record { bit = bitAnd (a .bit) (b .bit); level = max (a .level) (b .level) + 1 })
+    × ((bytes : List ℕ) → startLeveled bytes ≡ atLevelZero 0 ∷ atLevelZero 1 ∷ map (λ byte. atLevelZero (first (eqb byte 0) 0 1)) bytes)
 
 -- A run that ends without a fault has read and written only registers below the limit.
 abbrev pub RunWithinLimit : Type 1
@@ -57,7 +87,7 @@ LastUseDecides = (c : Circuit) (j v : ℕ) → j ≤ length (c .gates) → isUse
 abbrev pub PressureIsNeed : Type 0
 PressureIsNeed = (t : List ℕ) → WellFormed t → linearNeed (trim (decode t)) ≡ need (trim (decode t))
 
--- The program that the loops write is that of the steps.
+-- The program that the loops write is that of the actions.
 abbrev pub AllocatorIsProgram : Type 0
 AllocatorIsProgram = (t : List ℕ) → WellFormed t → withEmits (trim (decode t)) (allocationAtEnd (trim (decode t))) ≡ program (trim (decode t))
 
@@ -92,45 +122,45 @@ RegistersWithinNeed =
 
 -- ---- 01, Register program, 8, 9 and 11, of the program
 
--- Its instructions are the steps in order, with registers, and then one emit an output.
-abbrev pub ProgramFollowsSteps : Type 0
-ProgramFollowsSteps =
+-- Its instructions are the actions in order, with registers, and then one emit an output.
+abbrev pub ProgramFollowsActions : Type 0
+ProgramFollowsActions =
     (t : List ℕ) → WellFormed t
     → map withoutRegisters (program (trim (decode t)))
-    ≡ map instructionOf (steps (trim (decode t))) ++ replicate (length (trim (decode t) .outputs)) (emitting 0)
+    ≡ map instructionOf (actions (trim (decode t))) ++ replicate (length (trim (decode t) .outputs)) (emitting 0)
 
 -- There are as many as used constants and inputs, gates and outputs, and at most 2,818.
 abbrev pub ProgramCount : Type 0
 ProgramCount =
     (t : List ℕ) → WellFormed t
     → (length (program (trim (decode t)))
-    ≡ rank (isUsedFrom (trim (decode t)) 0) (firstGate (inputs t)) + length (trim (decode t) .gates) + length (trim (decode t) .outputs))
+    ≡ countBelow (isUsedFrom (trim (decode t)) 0) (firstGate (inputs t)) + length (trim (decode t) .gates) + length (trim (decode t) .outputs))
     × (length (program (trim (decode t))) ≤ maxInstructions)
 
--- The steps have one operation a gate, in order.
-abbrev pub StepsOperateInOrder : Type 0
-StepsOperateInOrder = (c : Circuit) → operationsOf (steps c) ≡ c .gates
+-- The actions have one operation a gate, in order.
+abbrev pub ActionsOperateInOrder : Type 0
+ActionsOperateInOrder = (c : Circuit) → operationsOf (actions c) ≡ c .gates
 
 -- Each constant or input that a gate or an output uses is loaded once, and nothing else is.
-abbrev pub StepsLoadOnce : Type 0
-StepsLoadOnce = (c : Circuit) (v : ℕ) → occurrences v (loadsOf (steps c)) ≡ oneIf (isConstantOrInput c v && isUsedFrom c 0 v)
+abbrev pub ActionsLoadOnce : Type 0
+ActionsLoadOnce = (c : Circuit) (v : ℕ) → occurrences v (loadsOf (actions c)) ≡ oneIf (isConstantOrInput c v && isUsedFrom c 0 v)
 
 -- Just before gate i's operation come the loads of the constants and inputs that gate i uses and no gate before it. With the theorem above
 -- and the next one, these are the only loads there.
-abbrev pub StepsLoadAtFirstUse : Type 0
-StepsLoadAtFirstUse =
+abbrev pub ActionsLoadAtFirstUse : Type 0
+ActionsLoadAtFirstUse =
     (c : Circuit) (i : ℕ) → i < length (c .gates)
-    → (before after : List Step)
-    × (steps c ≡ before ++ operandLoads c i (getD (c .gates) i noGate) ++ operate (firstGate (c .inputs) + i) (getD (c .gates) i noGate) ∷ after)
+    → (before after : List Action)
+    × (actions c ≡ before ++ operandLoads c i (getD (c .gates) i noGate) ++ operate (firstGate (c .inputs) + i) (getD (c .gates) i noGate) ∷ after)
     × (operationsOf before ≡ take i (c .gates))
     × ((v : ℕ) → occurrences v (loadsOf (operandLoads c i (getD (c .gates) i noGate))) ≡ oneIf (isUnloaded c i v && isOperand v (getD (c .gates) i noGate)))
 
 -- The loads behind the last operation are those of the constants and inputs that only outputs use.
-abbrev pub StepsLoadForOutputs : Type 0
-StepsLoadForOutputs =
+abbrev pub ActionsLoadForOutputs : Type 0
+ActionsLoadForOutputs =
     (c : Circuit)
-    → (before : List Step)
-    × (steps c ≡ before ++ outputLoads c 0 (c .outputs))
+    → (before : List Action)
+    × (actions c ≡ before ++ outputLoads c 0 (c .outputs))
     × (operationsOf before ≡ c .gates)
     × (operationsOf (outputLoads c 0 (c .outputs)) ≡ [])
     × ((v : ℕ) → occurrences v (loadsOf (outputLoads c 0 (c .outputs))) ≡ oneIf (isUnloaded c (length (c .gates)) v && isOutput c v))
@@ -172,16 +202,16 @@ DeliveryIsSafe =
 
 -- The same in the terms of the two calls, whatever `rewrite` is lent. After it has succeeded with `values` (lines, old D, old N, new D, new N,
 -- kept), its result begins with a table of as many lines, its verdicts with one a site, of which as many are 0 as were kept, and the
--- numbers are bounded as above. Given that table, any limit and a buffer that is long enough, `translate` pleads 10 exactly below the
--- need; and what it leaves after a success, run with its limit, emits the bits of the circuit first read, the new D as the highest level.
+-- numbers are bounded as above. Given that table, a limit from 1 to 1,024 and a buffer that is long enough, `translate` pleads 10 exactly
+-- below the need; and what it leaves after a success, run with its limit, emits the bits of the circuit first read, the new D as the highest level.
 abbrev pub CallsDeliver : Type 0
 CallsDeliver =
     (circuit rules sites result work verdicts values : List ℕ)
     → rewriting circuit rules sites result work verdicts .answer ≡ gives values
     → (bytes : List ℕ) → length bytes ≡ inputs circuit
     → SafeDelivery circuit rules sites bytes
-    × (take (3 * getD values 0 0) (rewriting circuit rules sites result work verdicts .result) ≡ encode (handedBack circuit rules sites))
-    × (take (siteCount sites) (rewriting circuit rules sites result work verdicts .verdicts) ≡ allVerdicts circuit rules sites)
+    × (take (3 * getD values 0 0) (rewriting circuit rules sites result work verdicts .buffers .result) ≡ encode (handedBack circuit rules sites))
+    × (take (siteCount sites) (rewriting circuit rules sites result work verdicts .buffers .verdicts) ≡ allVerdicts circuit rules sites)
     × (getD values 5 0 ≡ zeros (allVerdicts circuit rules sites))
     × (getD values 5 0 + 2049 * getD values 3 0 + getD values 4 0 ≤ 2049 * getD values 1 0 + getD values 2 0)
     × ((limit : ℕ) (buffer : List ℕ) → programNumbers ≤ length buffer → 1 ≤ limit → limit ≤ maxRegisters

@@ -1,12 +1,13 @@
 -- The call `translate`: what it gives back, and what the lent program buffer then holds, for every input.
-use Prim.Native.Nat.{ℕ}
+use Prim.Native.Nat.{ℕ, _*_}
 use mathlib.Core.Bool.{Bool, not, _&&_}
-use mathlib.Core.List.{List, [], _∷_}
-use lib.Dec.{eqb, leb, ltb}
+use mathlib.Core.List.{List, [], _∷_, _++_}
+use lib.Dec.{leb, ltb}
 use lib.ListN.{length}
-use Rattle.lists.specs.First.{first}
 use Rattle.lines.specs.Text.{isPartial}
-use Rattle.lines.specs.Refusal.{Result, refused, gives, noTable, Outcome, leaving}
+use Rattle.lines.specs.declared.Refusal.{Refusal}
+use Rattle.lines.specs.Refusal.{Result, refused, gives, noTable, Outcome}
+use Rattle.lines.specs.Checks.{found, check, answering, afterwards}
 use Rattle.lines.specs.Calls.{over}
 use Rattle.circuit.specs.Circuit.{Circuit}
 use Rattle.circuit.specs.Table.{decode}
@@ -16,11 +17,11 @@ use Rattle.translator.specs.declared.Translated.{Translated}
 use Rattle.translator.specs.declared.Translated.the-variants.{Program, Refused}
 use Rattle.translator.specs.Machine.{maxRegisters}
 use Rattle.translator.specs.Need.{need}
-use Rattle.translator.specs.Program.{program, encodeProgram}
+use Rattle.translator.specs.Program.{program, encodeProgram, maxInstructions}
 
--- 01, refusal 2: how many numbers a lent program buffer has at least, which is four for each of `maxInstructions`
+-- 01, refusal 2: how many numbers a lent program buffer has at least: 11,272, four an instruction
 abbrev pub programNumbers : ℕ
-programNumbers = 11272
+programNumbers = 4 * maxInstructions
 
 -- 01, refusal 9, does not apply.
 abbrev pub isLimit : ℕ → Bool
@@ -31,17 +32,24 @@ abbrev pub paperValues : Translated → Result
 paperValues (Program instructions n) = gives (instructions ∷ n ∷ [])
 paperValues (Refused r) = refused (r .number) (r .table)
 
--- a success, of a circuit that is trimmed: the program, four numbers an instruction, over the buffer's front
-abbrev pub translated : Circuit → (buffer : List ℕ) → Outcome
-translated c buffer = leaving (gives (length (program c) ∷ need c ∷ [])) (over (encodeProgram (program c)) buffer)
+-- 01, Refusals, 2: 1 for the table; 2, for fewer than `programNumbers`, whatever the program needs; 4 to 7; 9.
+abbrev pub translateChecks : (circuit : List ℕ) (limit : ℕ) (buffer : List ℕ) → List Refusal
+translateChecks circuit limit buffer =
+    check (isPartial 3 circuit) 1 circuitTable
+    ∷ check (ltb (length buffer) programNumbers) 2 noTable
+    ∷ found (refusal circuit) circuitTable
+    ∷ check (not (isLimit limit)) 9 noTable ∷ []
 
--- 01, Refusals, 2: 1 for the table; 2, for fewer than 11,272 numbers, whatever the program needs; 4 to 7; 9; 10. Else the circuit is
--- trimmed (01, Register program, 7) and translated.
-unfoldable pub translating : (circuit : List ℕ) (limit : ℕ) (buffer : List ℕ) → Outcome
+-- and last 10, of a circuit that is trimmed
+abbrev pub needChecks : (limit : ℕ) → Circuit → List Refusal
+needChecks limit c = check (ltb limit (need c)) 10 noTable ∷ []
+
+-- Where none of the checks applies, the program of the trimmed circuit is over the buffer's front, four numbers an instruction.
+abbrev pub translated : (checks : List Refusal) → Circuit → (buffer : List ℕ) → Outcome (List ℕ)
+translated checks c buffer =
+    afterwards (answering checks (length (program c) ∷ need c ∷ [])) buffer (over (encodeProgram (program c)) buffer)
+
+-- 01, Register program, 7: the translator trims first.
+unfoldable pub translating : (circuit : List ℕ) (limit : ℕ) (buffer : List ℕ) → Outcome (List ℕ)
 translating circuit limit buffer =
-    first (isPartial 3 circuit) (leaving (refused 1 circuitTable) buffer)
-    (first (ltb (length buffer) programNumbers) (leaving (refused 2 noTable) buffer)
-    (first (not (eqb (refusal circuit) 0)) (leaving (refused (refusal circuit) circuitTable) buffer)
-    (first (not (isLimit limit)) (leaving (refused 9 noTable) buffer)
-    (first (ltb limit (need (trim (decode circuit)))) (leaving (refused 10 noTable) buffer)
-    (translated (trim (decode circuit)) buffer)))))
+    translated (translateChecks circuit limit buffer ++ needChecks limit (trim (decode circuit))) (trim (decode circuit)) buffer

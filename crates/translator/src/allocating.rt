@@ -1,18 +1,18 @@
 // Registers for the values of a circuit, and the instructions that put them there: gate by gate, then for the outputs.
 ghost use mathlib.Core.Path.{_≡_};
 ghost use Prim.Native.Nat.{ℕ, _+_, _<_, _≤_};
-ghost use lib.Dec.{ltb};
 ghost use lib.ListN.{length, getD};
+ghost use Rattle.circuit.specs.Circuit.{maxReferences};
 ghost use Rattle.circuit.specs.Table.{decode};
 ghost use Rattle.circuit.specs.Trim.{trim};
 ghost use Rattle.circuit.specs.WellFormed.{WellFormed};
 ghost use Rattle.translator.specs.Machine.{maxRegisters};
 ghost use Rattle.translator.specs.Need.{need};
-ghost use Rattle.translator.specs.LastUse.{lastUse};
+ghost use Rattle.translator.specs.LastUse.{lastUse, isUsedBehind};
 ghost use Rattle.translator.specs.Program.{maxInstructions};
 ghost use Rattle.translator.specs.Allocation.{operated};
-ghost use Rattle.translator.specs.Allocator.{ensureLoaded, ensureOperands, outputsLoaded, allocationAtEnd};
-ghost use Rattle.translator.specs.Registers.{maxReferences, instructionAt, allocationOf, gateOf, RegisterArrays, Represents, Loadable, Operable, Turnable};
+ghost use Rattle.translator.specs.Allocator.{ensureLoaded, turned, outputsLoaded, allocationAtEnd};
+ghost use Rattle.translator.specs.Registers.{instructionAt, allocationOf, RegisterArrays, Represents, Loadable, Operable, Turnable};
 use crate::MAX_REGISTERS;
 use crate::registers::Counts;
 use crate::registers::assign_register;
@@ -20,9 +20,11 @@ use crate::registers::is_held;
 use crate::registers::release;
 use crate::writing::LOAD;
 use circuit::checked::CONSTANTS;
-use circuit::checked::GateLine;
+use circuit::checked::Gate;
 use circuit::checked::MAX_REFERENCES;
+use circuit::checked::closings_from;
 use circuit::checked::gate_line;
+use circuit::checked::gates_from;
 use circuit::checked::output_reference;
 
 // v is loaded, if it is in no register.
@@ -36,9 +38,10 @@ pub fn ensure_loaded(
 ) -> Counts
     requires { ⌜ RegisterArrays (now owner) (now freed) (now place) (counts .free) (counts .fresh) ⌝ }
     requires { ⌜ v < maxReferences ⌝ }
-    requires { ⌜ Loadable v (allocationOf (now owner) (now freed) (now buffer) (counts .free) (counts .fresh) (counts .written)) ⌝ }
-    requires { ⌜ instructionAt (length (ensureLoaded v (allocationOf (now owner) (now freed) (now buffer) (counts .free) (counts .fresh) (counts .written)) .code)) ≤ length (now buffer) ⌝ }
-    ensures { λ r. ⌜ Represents (now (owner .exit)) (now (freed .entry)) (now (place .exit)) (now (buffer .exit)) (r .free) (r .fresh) (r .written) (now (buffer .entry)) (ensureLoaded v (allocationOf (now (owner .entry)) (now (freed .entry)) (now (buffer .entry)) (counts .free) (counts .fresh) (counts .written))) ⌝ }
+    requires { ⌜ Loadable v (allocationOf (now owner) (now freed) (now buffer) counts) ⌝ }
+    requires { ⌜ instructionAt (length (ensureLoaded v (allocationOf (now owner) (now freed) (now buffer) counts) .code)) ≤ length (now buffer) ⌝ }
+    ensures { λ r. ⌜ Represents (now (owner .exit)) (now (freed .entry)) (now (place .exit)) (now (buffer .exit)) r (now (buffer .entry))
+        (ensureLoaded v (allocationOf (now (owner .entry)) (now (freed .entry)) (now (buffer .entry)) counts)) ⌝ }
 {
     if is_held(owner, place, v) {
         return counts;
@@ -55,15 +58,18 @@ fn operate(
     buffer: &mut [u32],
     last: &[u32; MAX_REFERENCES],
     counts: Counts,
-    gate: GateLine,
+    gate: Gate,
     v: usize,
     number: u32,
 ) -> Counts
     requires { ⌜ RegisterArrays (now owner) (now freed) (now place) (counts .free) (counts .fresh) ⌝ }
     requires { ⌜ (gate .left < v) × (gate .right < v) × (v < maxReferences) ⌝ }
-    requires { ⌜ Operable (λ u. ltb number (getD (now last) u 0)) v (gateOf (gate .kind) (gate .left) (gate .right)) (allocationOf (now owner) (now freed) (now buffer) (counts .free) (counts .fresh) (counts .written)) ⌝ }
+    requires { ⌜ Operable (isUsedBehind (now last) number) v gate
+        (allocationOf (now owner) (now freed) (now buffer) counts) ⌝ }
     requires { ⌜ instructionAt (counts .written + 1) ≤ length (now buffer) ⌝ }
-    ensures { λ r. ⌜ Represents (now (owner .exit)) (now (freed .exit)) (now (place .exit)) (now (buffer .exit)) (r .free) (r .fresh) (r .written) (now (buffer .entry)) (operated (λ u. ltb number (getD (now (last .entry)) u 0)) v (gateOf (gate .kind) (gate .left) (gate .right)) (allocationOf (now (owner .entry)) (now (freed .entry)) (now (buffer .entry)) (counts .free) (counts .fresh) (counts .written))) ⌝ }
+    ensures { λ r. ⌜ Represents (now (owner .exit)) (now (freed .exit)) (now (place .exit)) (now (buffer .exit)) r (now (buffer .entry))
+        (operated (isUsedBehind (now (last .entry)) number) v gate
+        (allocationOf (now (owner .entry)) (now (freed .entry)) (now (buffer .entry)) counts)) ⌝ }
 {
     let left = gate.left as usize;
     let right = gate.right as usize;
@@ -84,14 +90,17 @@ fn gate_turn(
     buffer: &mut [u32],
     last: &[u32; MAX_REFERENCES],
     counts: Counts,
-    gate: GateLine,
+    gate: Gate,
     v: usize,
     number: u32,
 ) -> Counts
     requires { ⌜ RegisterArrays (now owner) (now freed) (now place) (counts .free) (counts .fresh) ⌝ }
     requires { ⌜ (gate .left < v) × (gate .right < v) × (v < maxReferences) ⌝ }
-    requires { ⌜ Turnable (λ u. ltb number (getD (now last) u 0)) v (gateOf (gate .kind) (gate .left) (gate .right)) (allocationOf (now owner) (now freed) (now buffer) (counts .free) (counts .fresh) (counts .written)) (length (now buffer)) ⌝ }
-    ensures { λ r. ⌜ Represents (now (owner .exit)) (now (freed .exit)) (now (place .exit)) (now (buffer .exit)) (r .free) (r .fresh) (r .written) (now (buffer .entry)) (operated (λ u. ltb number (getD (now (last .entry)) u 0)) v (gateOf (gate .kind) (gate .left) (gate .right)) (ensureOperands (gateOf (gate .kind) (gate .left) (gate .right)) (allocationOf (now (owner .entry)) (now (freed .entry)) (now (buffer .entry)) (counts .free) (counts .fresh) (counts .written)))) ⌝ }
+    requires { ⌜ Turnable (isUsedBehind (now last) number) v gate
+        (allocationOf (now owner) (now freed) (now buffer) counts) (length (now buffer)) ⌝ }
+    ensures { λ r. ⌜ Represents (now (owner .exit)) (now (freed .exit)) (now (place .exit)) (now (buffer .exit)) r (now (buffer .entry))
+        (turned (isUsedBehind (now (last .entry)) number) v gate
+        (allocationOf (now (owner .entry)) (now (freed .entry)) (now (buffer .entry)) counts)) ⌝ }
 {
     let one = ensure_loaded(owner, freed, place, buffer, counts, gate.left as usize);
     let both = ensure_loaded(owner, freed, place, buffer, one, gate.right as usize);
@@ -113,9 +122,11 @@ pub fn allocate_gates(
     requires { ⌜ ((v : ℕ) → getD (now last) v 0 ≡ lastUse (decode (now t)) v) ⌝ }
     requires { ⌜ RegisterArrays (now owner) (now freed) (now place) 0 0 ⌝ }
     requires { ⌜ instructionAt maxInstructions ≤ length (now buffer) ⌝ }
-    ensures { λ r. ⌜ Represents (now (owner .exit)) (now (freed .exit)) (now (place .exit)) (now (buffer .exit)) (r .free) (r .fresh) (r .written) (now (buffer .entry)) (outputsLoaded (decode (now (t .entry))) 0) ⌝ }
+    ensures { λ r. ⌜ Represents (now (owner .exit)) (now (freed .exit)) (now (place .exit)) (now (buffer .exit)) r (now (buffer .entry))
+        (outputsLoaded (decode (now (t .entry))) 0) ⌝ }
 {
-    let first = (t[0] + CONSTANTS) as usize;
+    let from = gates_from(t);
+    let first_gate = (t[0] + CONSTANTS) as usize;
     let gates = t[1] as usize;
     let mut counts = Counts {
         free: 0,
@@ -124,7 +135,7 @@ pub fn allocate_gates(
     };
     let mut i: usize = 0;
     while i < gates {
-        let gate = gate_line(t, i);
+        let gate = gate_line(t, from, i);
         let number = i as u32 + 1;
         let next = gate_turn(
             owner,
@@ -134,7 +145,7 @@ pub fn allocate_gates(
             last,
             counts,
             gate,
-            first + i,
+            first_gate + i,
             number,
         );
         counts = next;
@@ -156,15 +167,17 @@ pub fn load_outputs(
     requires { ⌜ trim (decode (now t)) ≡ decode (now t) ⌝ }
     requires { ⌜ need (decode (now t)) ≤ maxRegisters ⌝ }
     requires { ⌜ RegisterArrays (now owner) (now freed) (now place) (start .free) (start .fresh) ⌝ }
-    requires { ⌜ allocationOf (now owner) (now freed) (now buffer) (start .free) (start .fresh) (start .written) ≡ outputsLoaded (decode (now t)) 0 ⌝ }
+    requires { ⌜ allocationOf (now owner) (now freed) (now buffer) start ≡ outputsLoaded (decode (now t)) 0 ⌝ }
     requires { ⌜ instructionAt maxInstructions ≤ length (now buffer) ⌝ }
-    ensures { λ r. ⌜ Represents (now (owner .exit)) (now (freed .entry)) (now (place .exit)) (now (buffer .exit)) (r .free) (r .fresh) (r .written) (now (buffer .entry)) (allocationAtEnd (decode (now (t .entry)))) ⌝ }
+    ensures { λ r. ⌜ Represents (now (owner .exit)) (now (freed .entry)) (now (place .exit)) (now (buffer .exit)) r (now (buffer .entry))
+        (allocationAtEnd (decode (now (t .entry)))) ⌝ }
 {
+    let from = closings_from(t);
     let outputs = t[2] as usize;
     let mut counts = start;
     let mut j: usize = 0;
     while j < outputs {
-        let v = output_reference(t, j);
+        let v = output_reference(t, from, j);
         let next = ensure_loaded(owner, freed, place, buffer, counts, v);
         counts = next;
         j += 1;

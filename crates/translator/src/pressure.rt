@@ -2,17 +2,17 @@
 ghost use mathlib.Core.Path.{_≡_};
 ghost use Prim.Native.Nat.{ℕ, _+_, _<_, max};
 ghost use lib.ListN.{length, getD};
-ghost use Rattle.circuit.specs.Circuit.{noGate};
-ghost use Rattle.circuit.specs.Table.{gates, gateLines, decode};
+ghost use Rattle.circuit.specs.Circuit.{noGate, maxReferences};
+ghost use Rattle.circuit.specs.Table.{gates, gatesFrom, gateLines, decode};
 ghost use Rattle.circuit.specs.Trim.{trim};
 ghost use Rattle.circuit.specs.WellFormed.{WellFormed};
 ghost use Rattle.translator.specs.LastUse.{lastUse, countDistinct};
 ghost use Rattle.translator.specs.LiveRange.{isUsedBefore};
 ghost use Rattle.translator.specs.Pressure.{oneIf, arrivals, departures, pressureAfter, linearNeed};
-ghost use Rattle.translator.specs.Registers.{maxReferences};
 use circuit::checked::CONSTANTS;
 use circuit::checked::MAX_REFERENCES;
 use circuit::checked::gate_line;
+use circuit::checked::gates_from;
 use circuit::checked::larger;
 
 // How many of the two are true.
@@ -23,8 +23,9 @@ fn count_true(a: bool, b: bool) -> u32
 }
 
 // How many values gate i loads: the constants and inputs among its operands that no gate before it has marked as used. It marks both.
-fn arrivals(t: &[u32], i: usize, used: &mut [u32; MAX_REFERENCES]) -> u32
+fn arrivals(t: &[u32], from: usize, i: usize, used: &mut [u32; MAX_REFERENCES]) -> u32
     requires { ⌜ WellFormed (now t) ⌝ }
+    requires { ⌜ from ≡ gatesFrom (now t) ⌝ }
     requires { ⌜ i < gates (now t) ⌝ }
     requires { ⌜ length (now used) ≡ maxReferences ⌝ }
     requires { ⌜ ((v : ℕ) → getD (now used) v 0 ≡ oneIf (isUsedBefore (decode (now t)) i v)) ⌝ }
@@ -32,23 +33,24 @@ fn arrivals(t: &[u32], i: usize, used: &mut [u32; MAX_REFERENCES]) -> u32
     ensures { λ _. ⌜ ((v : ℕ) → getD (now (used .exit)) v 0 ≡ oneIf (isUsedBefore (decode (now (t .entry))) (i + 1) v)) ⌝ }
     ensures { λ _. ⌜ length (now (used .exit)) ≡ maxReferences ⌝ }
 {
-    let line = gate_line(t, i);
-    let first = t[0] + CONSTANTS;
-    let left = (line.left < first) & (used[line.left as usize] == 0);
+    let line = gate_line(t, from, i);
+    let first_gate = t[0] + CONSTANTS;
+    let left = (line.left < first_gate) & (used[line.left as usize] == 0);
     used[line.left as usize] = 1;
-    let right = (line.right < first) & (used[line.right as usize] == 0);
+    let right = (line.right < first_gate) & (used[line.right as usize] == 0);
     used[line.right as usize] = 1;
     count_true(left, right)
 }
 
 // How many values gate i is the last to use. Two equal operands are one value.
-fn departures(t: &[u32], i: usize, last: &[u32; MAX_REFERENCES]) -> u32
+fn departures(t: &[u32], from: usize, i: usize, last: &[u32; MAX_REFERENCES]) -> u32
     requires { ⌜ WellFormed (now t) ⌝ }
+    requires { ⌜ from ≡ gatesFrom (now t) ⌝ }
     requires { ⌜ i < gates (now t) ⌝ }
     requires { ⌜ ((v : ℕ) → getD (now last) v 0 ≡ lastUse (decode (now t)) v) ⌝ }
     ensures { λ r. ⌜ r ≡ departures (decode (now (t .entry))) i (getD (gateLines (now (t .entry))) i noGate) ⌝ }
 {
-    let line = gate_line(t, i);
+    let line = gate_line(t, from, i);
     let number = i as u32 + 1;
     let left = (line.left == line.right) | (number < last[line.left as usize]);
     let right = number < last[line.right as usize];
@@ -64,12 +66,13 @@ fn most_held(t: &[u32], last: &[u32; MAX_REFERENCES], used: &mut [u32; MAX_REFER
     requires { ⌜ ((v : ℕ) → getD (now used) v 0 ≡ 0) ⌝ }
     ensures { λ r. ⌜ r ≡ pressureAfter (decode (now (t .entry))) (gates (now (t .entry))) .most ⌝ }
 {
+    let from = gates_from(t);
     let gates = t[1] as usize;
     let mut held = 0;
     let mut most = 0;
     for i in 0..gates {
-        let before = held + arrivals(t, i, used);
-        held = before - departures(t, i, last) + 1;
+        let before = held + arrivals(t, from, i, used);
+        held = before - departures(t, from, i, last) + 1;
         most = larger(larger(most, before), held);
     }
     most

@@ -2,10 +2,8 @@
 ghost use mathlib.Core.Path.{_≡_};
 ghost use mathlib.Core.List.{_++_, map};
 ghost use Prim.Native.Nat.{ℕ, _+_, _≤_};
-ghost use lib.Dec.{ltb};
 ghost use lib.ListN.{length, getD};
-ghost use Rattle.lists.specs.First.{first};
-ghost use Rattle.lines.specs.Refusal.{refused, noTable, leaving};
+ghost use Rattle.lines.specs.Refusal.{leaving};
 ghost use Rattle.lines.specs.Calls.{over};
 ghost use Rattle.circuit.specs.Table.{outputs, decode};
 ghost use Rattle.circuit.specs.Trim.{trim};
@@ -15,34 +13,36 @@ ghost use Rattle.translator.specs.Need.{need as needOf};
 ghost use Rattle.translator.specs.LastUse.{lastUse};
 ghost use Rattle.translator.specs.Program.{program, encodeProgram, instructionsOf, maxInstructions};
 ghost use Rattle.translator.specs.Registers.{instructionAt, Beyond};
-ghost use Rattle.translator.specs.TranslateCall.{programNumbers, translated, paperValues as translatedValues};
+ghost use Rattle.translator.specs.TranslateCall.{programNumbers, needChecks, translated, paperValues as translatedValues};
 use crate::MAX_REGISTERS;
 use crate::Translated;
 use crate::allocating::allocate_gates;
 use crate::allocating::load_outputs;
 use crate::last_use::last_uses;
-use crate::not_translated;
 use crate::pressure::need;
 use crate::writing::EMIT;
 use crate::writing::write_instruction;
-use circuit::NO_TABLE;
 use circuit::checked::MAX_REFERENCES;
 use circuit::checked::MAX_TABLE;
+use circuit::checked::closings_from;
 use circuit::checked::output_reference;
-use circuit::checked::table_end;
 use circuit::checked::trim;
+use lines::NO_TABLE;
+use lines::refuse;
 
 // The emits of the outputs, whose values are in the registers that `place` says, behind `start` instructions; and how many there are then.
 fn write_emits(t: &[u32], place: &[u32; MAX_REFERENCES], buffer: &mut [u32], start: usize) -> usize
     requires { ⌜ WellFormed (now t) ⌝ }
     requires { ⌜ instructionAt (start + outputs (now t)) ≤ length (now buffer) ⌝ }
-    ensures { λ r. ⌜ instructionsOf r (now (buffer .exit)) ≡ instructionsOf start (now (buffer .entry)) ++ map (λ v. emitting (getD (now (place .entry)) v 0)) (decode (now (t .entry)) .outputs) ⌝ }
+    ensures { λ r. ⌜ instructionsOf r (now (buffer .exit)) ≡ instructionsOf start (now (buffer .entry))
+        ++ map (λ v. emitting (getD (now (place .entry)) v 0)) (decode (now (t .entry)) .outputs) ⌝ }
     ensures { λ r. ⌜ Beyond (now (buffer .entry)) (now (buffer .exit)) r ⌝ }
 {
+    let from = closings_from(t);
     let count = t[2] as usize;
     let mut j: usize = 0;
     while j < count {
-        let v = output_reference(t, j);
+        let v = output_reference(t, from, j);
         write_instruction(buffer, start + j, EMIT, place[v], 0, 0);
         j += 1;
     }
@@ -68,19 +68,20 @@ fn write_program(t: &[u32], last: &[u32; MAX_REFERENCES], buffer: &mut [u32]) ->
     write_emits(t, &place, buffer, loaded.written)
 }
 
-// The last two tests and the work, on a trimmed circuit.
+// The last test and the work, on a trimmed circuit.
 fn translate_trimmed(t: &[u32], limit: u32, buffer: &mut [u32]) -> Translated
     requires { ⌜ WellFormed (now t) ⌝ }
     requires { ⌜ trim (decode (now t)) ≡ decode (now t) ⌝ }
     requires { ⌜ limit ≤ maxRegisters ⌝ }
     requires { ⌜ programNumbers ≤ length (now buffer) ⌝ }
-    ensures { λ r. ⌜ leaving (translatedValues r) (now (buffer .exit)) ≡ first (ltb limit (needOf (decode (now (t .entry))))) (leaving (refused 10 noTable) (now (buffer .entry))) (translated (decode (now (t .entry))) (now (buffer .entry))) ⌝ }
+    ensures { λ r. ⌜ leaving (translatedValues r) (now (buffer .exit)) ≡
+        translated (needChecks limit (decode (now (t .entry)))) (decode (now (t .entry))) (now (buffer .entry)) ⌝ }
 {
     let mut last = [0u32; MAX_REFERENCES];
     let distinct = last_uses(t, &mut last);
     let needed = need(t, &last, distinct);
     if limit < needed {
-        return not_translated(10, NO_TABLE);
+        return Translated::Refused(refuse(10, NO_TABLE));
     }
     let count = write_program(t, &last, buffer);
     Translated::Program {
@@ -94,10 +95,10 @@ pub fn translate_accepted(t: &[u32], limit: u32, buffer: &mut [u32]) -> Translat
     requires { ⌜ WellFormed (now t) ⌝ }
     requires { ⌜ limit ≤ maxRegisters ⌝ }
     requires { ⌜ programNumbers ≤ length (now buffer) ⌝ }
-    ensures { λ r. ⌜ leaving (translatedValues r) (now (buffer .exit)) ≡ first (ltb limit (needOf (trim (decode (now (t .entry)))))) (leaving (refused 10 noTable) (now (buffer .entry))) (translated (trim (decode (now (t .entry)))) (now (buffer .entry))) ⌝ }
+    ensures { λ r. ⌜ leaving (translatedValues r) (now (buffer .exit)) ≡
+        translated (needChecks limit (trim (decode (now (t .entry))))) (trim (decode (now (t .entry)))) (now (buffer .entry)) ⌝ }
 {
     let mut work = [0u32; MAX_TABLE];
-    trim(t, &mut work);
-    let end = table_end(&work);
+    let end = trim(t, &mut work);
     translate_trimmed(&work[..end], limit, buffer)
 }

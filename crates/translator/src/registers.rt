@@ -7,10 +7,11 @@ ghost use Prim.Native.Nat.{ℕ, suc, _+_, _-_, _<_, _≤_};
 ghost use lib.Dec.{eqb};
 ghost use lib.ListN.{length, take, getD};
 ghost use Rattle.lists.specs.First.{first};
+ghost use Rattle.circuit.specs.Circuit.{maxReferences};
 ghost use Rattle.circuit.specs.Path.{isAmong};
 ghost use Rattle.translator.specs.Machine.{operating, maxRegisters};
 ghost use Rattle.translator.specs.Allocation.{nextRegister, assign, release};
-ghost use Rattle.translator.specs.Registers.{maxReferences, instructionAt, stackOf, allocationOf, RegisterArrays, Represents};
+ghost use Rattle.translator.specs.Registers.{instructionAt, stackOf, allocationOf, countsAfter, RegisterArrays, Represents};
 use crate::MAX_REGISTERS;
 use crate::writing::write_instruction;
 use circuit::checked::MAX_REFERENCES;
@@ -46,7 +47,7 @@ fn next_register(freed: &[u32; MAX_REGISTERS], counts: Counts) -> u32
 // The counts when that one is taken and `written` instructions are written.
 fn counts_after(counts: Counts, written: usize) -> Counts
     requires { ⌜ counts .fresh ≤ maxRegisters ⌝ }
-    ensures { λ r. ⌜ (r .free ≡ counts .free - 1) × (r .fresh ≡ first (eqb (counts .free) 0) (counts .fresh + 1) (counts .fresh)) × (r .written ≡ written) ⌝ }
+    ensures { λ r. ⌜ r ≡ countsAfter counts written ⌝ }
 {
     if counts.free == 0 {
         return Counts {
@@ -79,7 +80,8 @@ pub fn assign_register(
     requires { ⌜ isAmong (suc v) (take (counts .fresh) (now owner)) ≡ false ⌝ }
     requires { ⌜ nextRegister (take (counts .fresh) (now owner)) (stackOf (now freed) (counts .free)) < maxRegisters ⌝ }
     requires { ⌜ instructionAt (counts .written + 1) ≤ length (now buffer) ⌝ }
-    ensures { λ r. ⌜ Represents (now (owner .exit)) (now (freed .entry)) (now (place .exit)) (now (buffer .exit)) (r .free) (r .fresh) (r .written) (now (buffer .entry)) (assign v (λ d. operating opcode d a b) (allocationOf (now (owner .entry)) (now (freed .entry)) (now (buffer .entry)) (counts .free) (counts .fresh) (counts .written))) ⌝ }
+    ensures { λ r. ⌜ Represents (now (owner .exit)) (now (freed .entry)) (now (place .exit)) (now (buffer .exit)) r (now (buffer .entry))
+        (assign v (λ d. operating opcode d a b) (allocationOf (now (owner .entry)) (now (freed .entry)) (now (buffer .entry)) counts)) ⌝ }
 {
     let d = next_register(freed, counts);
     owner[d as usize] = v as u32 + 1;
@@ -102,7 +104,8 @@ pub fn release(
     requires { ⌜ isAmong (suc v) (take (counts .fresh) (now owner)) ≡ true ⌝ }
     requires { ⌜ (keep ≡ false → counts .free < maxRegisters) ⌝ }
     ensures { λ r. ⌜ RegisterArrays (now (owner .exit)) (now (freed .exit)) (now (place .entry)) (r .free) (r .fresh) ⌝ }
-    ensures { λ r. ⌜ ((p : List ℕ) → allocationOf (now (owner .exit)) (now (freed .exit)) p (r .free) (r .fresh) (r .written) ≡ release keep v (allocationOf (now (owner .entry)) (now (freed .entry)) p (counts .free) (counts .fresh) (counts .written))) ⌝ }
+    ensures { λ r. ⌜ ((p : List ℕ) → allocationOf (now (owner .exit)) (now (freed .exit)) p r
+        ≡ release keep v (allocationOf (now (owner .entry)) (now (freed .entry)) p counts)) ⌝ }
 {
     if keep {
         return counts;

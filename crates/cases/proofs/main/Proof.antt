@@ -1,3 +1,4 @@
+-- Needs no invariant: as n is below a third of the arguments, 3 * n + 3 is not above their number.
 use Prim.Native.Nat.{_-_}
 use borrow.Author.Needs.{needs}
 use Rattle.cases.proofs.main.Statement.{statement}

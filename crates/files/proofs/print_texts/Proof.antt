@@ -1,5 +1,4 @@
-use Prim.Native.Nat.{ℕ}
-use lib.ListN.{replicate}
+-- What is printed is in the front of the buffer, as many bytes as the result says (`numbers-fit` in CallLaws).
 use borrow.Author.Needs.{needs}
 use Rattle.napspruce.specs.Printed.{printed}
 use Rattle.napspruce.proofs.CallLaws.{numbers-fit, numbers-count}
@@ -13,16 +12,16 @@ array-share-prefix-out : tie.Need-array-share-prefix-out
 array-share-prefix-out c =
     let a = c .before .before .before .before .before .args in
     let p = c .print-listing in
-    numbers-fit (printed (a .circuit .now) (a .rules .now) (a .sites .now)) (replicate {A = ℕ} 53580 0) (p .last .1 .1 .1 .0) (p .result) (p .ensures .0) (p .ensures .1)
+    numbers-fit (printed (a .circuit .now) (a .rules .now) (a .sites .now)) _ (p .last .1 .1 .1 .0) (p .result) (p .ensures .0) (p .ensures .1)
 
-slice-aggregate-write-all : tie.Need-slice-aggregate-write-all
-slice-aggregate-write-all c =
+slice-aggregate-print : tie.Need-slice-aggregate-print
+slice-aggregate-print c =
     let a = c .before .before .before .before .before .before .args in
     let p = c .before .print-listing in
-    numbers-count (printed (a .circuit .now) (a .rules .now) (a .sites .now)) (replicate {A = ℕ} 53580 0) (p .last .1 .1 .1 .0) (p .result) (p .ensures .0) (p .ensures .1)
+    numbers-count (printed (a .circuit .now) (a .rules .now) (a .sites .now)) _ (p .last .1 .1 .1 .0) (p .result) (p .ensures .0) (p .ensures .1)
 
-write-all-requires : tie.Need-write-all-requires
-write-all-requires c κs = search needs
+print-requires : tie.Need-print-requires
+print-requires c κs = search needs
 
 returns : tie.Need-returns
 returns c = search needs
@@ -33,6 +32,6 @@ print-texts-spec =
     (tie.spec
     print-listing-requires
     array-share-prefix-out
-    slice-aggregate-write-all
-    write-all-requires
+    slice-aggregate-print
+    print-requires
     returns)

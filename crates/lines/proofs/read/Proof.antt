@@ -1,7 +1,8 @@
+-- The validation says which lines there are (`Valid`); the room that is left, or not, decides the rest (CallLaws).
 use mathlib.Core.Path.{sym, ap, _∙_}
 use native.Mathlib.Omega.{arith}
 use borrow.Author.Needs.{needs}
-use Rattle.lines.specs.Refusal.{paperValues}
+use Rattle.lines.specs.Refusal.{refused, paperValues}
 use Rattle.lines.specs.Line.{isLine, readLine}
 use Rattle.lines.proofs.CallLaws.{Valid, valid-is, conversion-refused, conversion-short, conversion-done}
 use Rattle.lines.proofs.LineLaws.{row-length}
@@ -21,13 +22,13 @@ valid c = valid-is 19 isLine _ _ (sym (c .before .before .before .validate .ensu
 mul-if1 : tie.Need-mul-if1
 mul-if1 c = omega (arith, valid c .whole .long)
 
-refused-requires : tie.Need-refused-requires
-refused-requires c κs = search needs
+refuse-requires : tie.Need-refuse-requires
+refuse-requires c κs = search needs
 
 returns : tie.Need-returns
 returns c =
     let v = valid (c .before .before) in
-    conversion-short 19 3 isLine readLine _ _ _ v _ (ap paperValues (c .refused .ensures)) (c .before .if1 .taken)
+    conversion-short 19 3 isLine readLine _ _ _ v _ (ap (λ x. refused (x .number) (x .table)) (c .refuse .ensures)) (c .before .if1 .taken)
 
 read-lines-requires : tie.Need-read-lines-requires
 read-lines-requires c κs = omega (arith, valid (c .before .before) .whole .long)
@@ -55,7 +56,7 @@ read-spec =
     validate-requires
     enum-known-lines
     mul-if1
-    refused-requires
+    refuse-requires
     returns
     read-lines-requires
     enum-known-refusal

@@ -1,34 +1,35 @@
+-- Each way out is a law of `validation`, by the tests that were passed (CallLaws).
 use mathlib.Core.Path.{sym, ap, _∙_}
 use borrow.Author.Needs.{needs}
 use borrow.Author.Tests.{not-true, not-false}
-use Rattle.lines.specs.Refusal.{paperValues}
+use Rattle.lines.specs.Refusal.{refused}
 use Rattle.lines.specs.Line.{isLine}
 use Rattle.lines.proofs.CallLaws.{valid-empty, valid-partial, valid-wrong, valid-right}
 use Rattle.lines.proofs.validate.Statement.{statement}
 use Rattle.lines.proofs.validate.Tie as tie
 
-refused-requires : tie.Need-refused-requires
-refused-requires c κs = search needs
+refuse-requires : tie.Need-refuse-requires
+refuse-requires c κs = search needs
 
 returns : tie.Need-returns
-returns c = ap paperValues (c .refused .ensures) ∙ valid-empty 19 (c .before .before .before .args .text .now) isLine (c .before .if1 .taken)
+returns c = ap (λ x. refused (x .number) (x .table)) (c .refuse .ensures) ∙ valid-empty 19 (c .before .before .before .args .text .now) isLine (c .before .if1 .taken)
 
-refused-requires-2 : tie.Need-refused-requires-2
-refused-requires-2 c κs = search needs
+refuse-requires-2 : tie.Need-refuse-requires-2
+refuse-requires-2 c κs = search needs
 
 returns-2 : tie.Need-returns-2
-returns-2 c = ap paperValues (c .refused2 .ensures) ∙ valid-partial 19 (c .before .before .before .before .args .text .now) isLine (c .before .before .if1 .left) (c .before .if2 .taken)
+returns-2 c = ap (λ x. refused (x .number) (x .table)) (c .refuse2 .ensures) ∙ valid-partial 19 (c .before .before .before .before .args .text .now) isLine (c .before .before .if1 .left) (c .before .if2 .taken)
 
 are-lines-requires : tie.Need-are-lines-requires
 are-lines-requires c κs = search needs
 
-refused-requires-3 : tie.Need-refused-requires-3
-refused-requires-3 c κs = search needs
+refuse-requires-3 : tie.Need-refuse-requires-3
+refuse-requires-3 c κs = search needs
 
 returns-3 : tie.Need-returns-3
 returns-3 c =
     let t = c .before .before in
-    ap paperValues (c .refused3 .ensures)
+    ap (λ x. refused (x .number) (x .table)) (c .refuse3 .ensures)
     ∙ valid-wrong 19 (t .before .before .before .before .args .text .now) isLine (t .before .before .if1 .left) (t .before .if2 .left) (sym (t .are-lines .ensures) ∙ not-true _ (c .before .if3 .taken))
 
 returns-4 : tie.Need-returns-4
@@ -40,11 +41,11 @@ pub validate-spec : {M : Type 1} → statement M
 validate-spec =
     tie.close
     (tie.spec
-    refused-requires
+    refuse-requires
     returns
-    refused-requires-2
+    refuse-requires-2
     returns-2
     are-lines-requires
-    refused-requires-3
+    refuse-requires-3
     returns-3
     returns-4)

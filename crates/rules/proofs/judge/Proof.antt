@@ -1,10 +1,11 @@
+-- One check, of the rules: its refusal, or well-formed rules with the verdict (CheckLaws).
 use mathlib.Core.List.{[], _∷_}
 use mathlib.Core.Path.{sym, ap, _∙_}
 use borrow.Author.Needs.{needs}
-use Rattle.lines.specs.Refusal.{refused, gives}
-use Rattle.rules.specs.RuleRefusal.{rulesTable}
+use Rattle.lines.specs.Refusal.{gives}
+use Rattle.lines.proofs.CheckLaws.{found-here, answer-refused, answer-gives}
+use Rattle.rules.specs.JudgeCall.{judging}
 use Rattle.rules.proofs.RefusalLaws.{accepted-rules-are-well-formed}
-use Rattle.rules.proofs.CallLaws.{judging-refused, judging-accepted}
 use Rattle.rules.proofs.judge.Statement.{statement}
 use Rattle.rules.proofs.judge.Tie as tie
 
@@ -14,13 +15,20 @@ rules-refusal-requires c κs = search needs
 judgement-requires : tie.Need-judgement-requires
 judgement-requires c κs = accepted-rules-are-well-formed _ .0 (sym (c .before .rules-refusal .ensures) ∙ c .match .keys1)
 
+refuse-requires : tie.Need-refuse-requires
+refuse-requires c κs = search needs
+
 returns : tie.Need-returns
-returns c = ap (λ v. gives (v ∷ [])) (c .judgement .ensures) ∙ judging-accepted _ _ (sym (c .before .before .rules-refusal .ensures) ∙ c .before .match .keys1)
+unfolding judging
+returns c =
+    ap (λ v. gives (v ∷ [])) (c .judgement .ensures) ∙ sym (answer-gives _ _ (sym (c .before .before .rules-refusal .ensures) ∙ c .before .match .keys1, tt))
 
 returns-2 : tie.Need-returns-2
+unfolding judging
 returns-2 c =
-    let e = c .before .rules-refusal .ensures in
-    ap (λ n. refused n rulesTable) e ∙ judging-refused _ _ (λ z. c .match .rest .1 (e ∙ z))
+    let some = c .before .match .rest .1 in
+    let f = found-here _ _ _ _ _ (c .before .before .rules-refusal .ensures) some (c .refuse .ensures) in
+    sym (answer-refused _ _ (c .refuse .result) f (λ z. some (ap (λ r. r .number) (sym (c .refuse .ensures)) ∙ z)))
 
 pub judge-spec : {M : Type 1} → statement M
-judge-spec = tie.close (tie.spec rules-refusal-requires judgement-requires returns returns-2)
+judge-spec = tie.close (tie.spec rules-refusal-requires judgement-requires refuse-requires returns returns-2)

@@ -1,15 +1,17 @@
+-- The invariant: the array keeps its length, and i is a place of it or its end.
 use mathlib.Core.Path.{_≡_}
-use Prim.Native.Nat.{_≤_, _-_}
+use Prim.Native.Nat.{_+_, _-_, _≤_}
 use lib.ListN.{length}
 use borrow.Author.Needs.{needs}
+use Rattle.circuit.specs.Circuit.{maxInputs}
 use Rattle.cases.proofs.inspecting.pattern.Statement.{statement}
 use Rattle.cases.proofs.inspecting.pattern.Tie as tie
 
 abbrev Inv-loop : tie.InvT-loop
-Inv-loop number bytes₀ i₀ bytes i = (i ≤ 513) × (513 ≡ length bytes)
+Inv-loop number bytes₀ i₀ bytes i = (i ≤ maxInputs + 1) × (maxInputs + 1 ≡ length bytes)
 
 abbrev μ-loop : tie.MeasureT-loop
-μ-loop number bytes₀ i₀ bytes i = 513 - i
+μ-loop number bytes₀ i₀ bytes i = maxInputs + 1 - i
 
 loop-holds : tie.Need-loop-holds Inv-loop μ-loop
 loop-holds c = search needs

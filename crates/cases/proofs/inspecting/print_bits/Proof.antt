@@ -1,3 +1,4 @@
+-- The invariant: the loop ends with the bits; each of them is a byte, and so a number to be printed.
 use mathlib.Core.Path.{_≡_}
 use Prim.Native.Nat.{_≤_, _-_}
 use native.Mathlib.Omega.{arith}

@@ -1,11 +1,13 @@
-use Prim.Native.Nat.{_*_, _-_, _≤_, _<_}
+-- The invariant: the program has the instructions that are counted, four numbers each, and the machine has no more registers than the arrays.
+use Prim.Native.Nat.{_*_, _-_, _≤_}
 use lib.ListN.{length}
 use borrow.Author.Needs.{needs}
+use Rattle.translator.specs.Machine.{maxRegisters}
 use Rattle.cases.proofs.machine.print_run.Statement.{statement}
 use Rattle.cases.proofs.machine.print_run.Tie as tie
 
 abbrev Inv-loop : tie.InvT-loop
-Inv-loop program limit inputs bits₀ levels₀ count i₀ t9 bits levels i = (4 * count ≤ length program) × (limit < 1025)
+Inv-loop program limit inputs bits₀ levels₀ count i₀ t9 bits levels i = (4 * count ≤ length program) × (limit ≤ maxRegisters)
 
 abbrev μ-loop : tie.MeasureT-loop
 μ-loop program limit inputs bits₀ levels₀ count i₀ t9 bits levels i = count - i

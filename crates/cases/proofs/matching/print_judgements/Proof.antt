@@ -1,3 +1,4 @@
+-- The invariant: the last number to be judged is at most one above the largest number of a rule.
 use Prim.Native.Nat.{_-_, _≤_}
 use borrow.Author.Needs.{needs}
 use Rattle.cases.proofs.matching.print_judgements.Statement.{statement}

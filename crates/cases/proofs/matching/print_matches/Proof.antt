@@ -1,3 +1,4 @@
+-- The invariant: the table has the lines that are counted, three numbers each.
 use Prim.Native.Nat.{_*_, _-_, _≤_}
 use lib.ListN.{length}
 use borrow.Author.Needs.{needs}

@@ -1,3 +1,4 @@
+-- What the reading has left is written back (RecodingLaws).
 use mathlib.Core.Path.{sym}
 use native.Mathlib.Omega.{arith}
 use lib.Seq.{length-take-le}
@@ -17,7 +18,7 @@ enum-known-lines c = search needs
 
 -- what the reading has left
 so : (c : tie.After-known-told) → let s = c .before .before .before .before .before .before .before .before .before .before .args in
-    Converted 19 3 isLine readLine (s .text .now) (s .table .now) (reading (s .text .now) (s .table .now) .buffer) (c .before .lines .given .0 .0)
+    Converted 19 3 isLine readLine (s .text .now) (s .table .now) (reading (s .text .now) (s .table .now) .buffers) (c .before .lines .given .0 .0)
 so c = read-so _ _ _ _ (c .before .before .before .before .before .read .ensures) _ (c .before .lines .given .1)
 
 mul-end : tie.Need-mul-end

@@ -1,3 +1,4 @@
+-- Needs no invariant: the loop goes over the places of the table.
 use Prim.Native.Nat.{_-_}
 use lib.ListN.{length}
 use borrow.Author.Needs.{needs}

@@ -1,3 +1,4 @@
+-- The pattern is as long as `pattern` promises, and so has the inputs that are taken of it.
 use mathlib.Core.Path.{sym}
 use native.Mathlib.Omega.{arith}
 use lib.Seq.{length-take-le}

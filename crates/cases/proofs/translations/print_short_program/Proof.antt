@@ -1,3 +1,4 @@
+-- `translate` keeps the buffer's length, and a program that is short enough to be printed ends within it.
 use mathlib.Core.Path.{sym}
 use Prim.Native.Nat.{_*_, _≤_}
 use native.Mathlib.Omega.{arith}

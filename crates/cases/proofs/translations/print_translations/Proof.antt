@@ -1,3 +1,4 @@
+-- The invariant: the array has all of the limits, which are as many as the loop has turns.
 use mathlib.Core.Path.{_≡_}
 use Prim.Native.Nat.{_-_}
 use lib.ListN.{length}

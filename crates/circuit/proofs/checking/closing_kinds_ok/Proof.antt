@@ -1,3 +1,4 @@
+-- Laws of `allGates`: the test of the closing lines from line i on is the whole's.
 use mathlib.Core.Path.{_≡_}
 use Prim.Native.Nat.{_+_, _-_, _≤_}
 use lib.ListN.{drop}
@@ -5,8 +6,8 @@ use borrow.Author.Needs.{needs}
 use borrow.Author.Tests.{not-true, not-false}
 use Rattle.circuit.specs.Refusal.{isClosing}
 use Rattle.circuit.specs.Each.{allGates}
-use Rattle.circuit.specs.Table.{outputs, closingLines}
-use Rattle.circuit.proofs.TableLaws.{closings-length, closing-step-from}
+use Rattle.circuit.specs.Table.{closingLines}
+use Rattle.circuit.proofs.TableLaws.{closings-length, closing-step}
 use Rattle.circuit.proofs.EachLaws.{all-none, all-pass, all-fail, all-end}
 use Rattle.circuit.proofs.checking.closing_kinds_ok.Statement.{statement}
 use Rattle.circuit.proofs.checking.closing_kinds_ok.Tie as tie
@@ -57,7 +58,7 @@ returns c =
     let l = c .before .before .before .before in
     let t = l .before .before .before .before .args .t .now in
     let i = l .loop .i in
-    all-fail isClosing 0 (closingLines t) i (l .loop .inv .1) _ (closing-step-from t i _ (l .before .before .closings-from .ensures) (c .before .before .before .loop-test .taken)) (not-true _ (c .if1 .taken))
+    all-fail isClosing 0 (closingLines t) i (l .loop .inv .1) _ (closing-step t i _ (l .before .before .closings-from .ensures) (c .before .before .before .loop-test .taken)) (not-true _ (c .if1 .taken))
 
 add-i : tie.Need-add-i Inv-loop μ-loop
 add-i c = search needs
@@ -70,7 +71,7 @@ loop-again c =
     let l = c .before .before .before .before in
     let t = l .before .before .before .before .args .t .now in
     let i = l .loop .i in
-    (search needs, all-pass isClosing 0 (closingLines t) i (l .loop .inv .1) _ (closing-step-from t i _ (l .before .before .closings-from .ensures) (c .before .before .before .loop-test .taken)) (not-false _ (c .if1 .left)))
+    (search needs, all-pass isClosing 0 (closingLines t) i (l .loop .inv .1) _ (closing-step t i _ (l .before .before .closings-from .ensures) (c .before .before .before .loop-test .taken)) (not-false _ (c .if1 .left)))
 
 returns-2 : tie.Need-returns-2 Inv-loop μ-loop
 returns-2 c =

@@ -1,18 +1,19 @@
-use mathlib.Core.Path.{_≡_}
+-- Laws of `allGates`: the test of the closing lines from line i on is the whole's.
+use mathlib.Core.Path.{_≡_, ap}
 use Prim.Native.Nat.{_+_, _-_, _≤_}
 use lib.ListN.{drop}
-use borrow.Author.Needs.{needs}
 use borrow.Author.Tests.{not-true, not-false}
 use Rattle.circuit.specs.Refusal.{referenceBelow}
 use Rattle.circuit.specs.Each.{allGates}
-use Rattle.circuit.specs.Table.{outputs, refs, closingLines}
-use Rattle.circuit.proofs.TableLaws.{closings-length, closing-step-from}
+use Rattle.circuit.specs.Table.{refs, gates, closingLines}
+use Rattle.circuit.proofs.TableLaws.{closings-length, closing-step}
 use Rattle.circuit.proofs.EachLaws.{all-none, all-pass, all-fail, all-end}
+use borrow.Author.Needs.{needs}
 use Rattle.circuit.proofs.checking.closing_references_ok.Statement.{statement}
 use Rattle.circuit.proofs.checking.closing_references_ok.Tie as tie
 
 abbrev Inv-loop : tie.InvT-loop
-Inv-loop t from references outputs i₀ i = (i ≤ outputs) × (allGates (referenceBelow (refs t)) (0 + i) (drop i (closingLines t)) ≡ allGates (referenceBelow (refs t)) 0 (closingLines t))
+Inv-loop t from references outputs i₀ i = (i ≤ outputs) × (references ≡ refs t) × (allGates (referenceBelow references) (0 + i) (drop i (closingLines t)) ≡ allGates (referenceBelow references) 0 (closingLines t))
 
 abbrev μ-loop : tie.MeasureT-loop
 μ-loop t from references outputs i₀ i = outputs - i
@@ -20,17 +21,14 @@ abbrev μ-loop : tie.MeasureT-loop
 closings-from-requires : tie.Need-closings-from-requires Inv-loop μ-loop
 closings-from-requires c κs = search needs
 
+first-gate-requires : tie.Need-first-gate-requires Inv-loop μ-loop
+first-gate-requires c κs = search needs
+
 shared-slice-read-references : tie.Need-shared-slice-read-references Inv-loop μ-loop
 shared-slice-read-references c = search needs
 
 add-references : tie.Need-add-references Inv-loop μ-loop
 add-references c = search needs
-
-shared-slice-read-references-2 : tie.Need-shared-slice-read-references-2 Inv-loop μ-loop
-shared-slice-read-references-2 c = search needs
-
-add-references-2 : tie.Need-add-references-2 Inv-loop μ-loop
-add-references-2 c = search needs
 
 shared-slice-read-outputs : tie.Need-shared-slice-read-outputs Inv-loop μ-loop
 shared-slice-read-outputs c = search needs
@@ -39,9 +37,7 @@ cast-outputs : tie.Need-cast-outputs Inv-loop μ-loop
 cast-outputs c = search needs
 
 loop-holds : tie.Need-loop-holds Inv-loop μ-loop
-loop-holds c =
-    let t = c .before .before .before .before .before .args .t .now in
-    (search needs, all-none (referenceBelow (refs t)) 0 (closingLines t))
+loop-holds c = (search needs, ap (λ x. x + gates (c .before .before .before .before .before .args .t .now)) (c .before .before .first-gate .ensures), all-none _ 0 (closingLines (c .before .before .before .before .before .args .t .now)))
 
 mul-if1 : tie.Need-mul-if1 Inv-loop μ-loop
 mul-if1 c = search needs
@@ -60,10 +56,9 @@ shared-slice-read-if1 c = search needs
 
 returns : tie.Need-returns Inv-loop μ-loop
 returns c =
-    let l = c .before .before .before in
-    let t = l .before .before .before .before .before .before .args .t .now in
-    let i = l .loop .i in
-    all-fail (referenceBelow (refs t)) 0 (closingLines t) i (l .loop .inv .1) _ (closing-step-from t i _ (l .before .before .before .before .closings-from .ensures) (c .before .before .loop-test .taken)) (not-true _ (c .if1 .taken))
+    let l = c .before .before .before .loop in
+    let t = c .before .before .before .before .before .before .before .before .before .args .t .now in
+    rw (← l .inv .1) (all-fail _ 0 (closingLines t) (l .i) (l .inv .2) _ (closing-step t (l .i) _ (c .before .before .before .before .before .before .before .closings-from .ensures) (c .before .before .loop-test .taken)) (not-true _ (c .if1 .taken)))
 
 add-i : tie.Need-add-i Inv-loop μ-loop
 add-i c = search needs
@@ -73,17 +68,15 @@ loop-less c = search needs
 
 loop-again : tie.Need-loop-again Inv-loop μ-loop
 loop-again c =
-    let l = c .before .before .before in
-    let t = l .before .before .before .before .before .before .args .t .now in
-    let i = l .loop .i in
-    (search needs, all-pass (referenceBelow (refs t)) 0 (closingLines t) i (l .loop .inv .1) _ (closing-step-from t i _ (l .before .before .before .before .closings-from .ensures) (c .before .before .loop-test .taken)) (not-false _ (c .if1 .left)))
+    let l = c .before .before .before .loop in
+    let t = c .before .before .before .before .before .before .before .before .before .args .t .now in
+    (search needs, l .inv .1, all-pass _ 0 (closingLines t) (l .i) (l .inv .2) _ (closing-step t (l .i) _ (c .before .before .before .before .before .before .before .closings-from .ensures) (c .before .before .loop-test .taken)) (not-false _ (c .if1 .left)))
 
 returns-2 : tie.Need-returns-2 Inv-loop μ-loop
 returns-2 c =
-    let l = c .before in
-    let t = l .before .before .before .before .before .before .args .t .now in
-    let i = l .loop .i in
-    all-end (referenceBelow (refs t)) 0 (closingLines t) i (l .loop .inv .1) (rw closings-length (c .loop-test .left))
+    let l = c .before .loop in
+    let t = c .before .before .before .before .before .before .before .args .t .now in
+    rw (← l .inv .1) (all-end _ 0 (closingLines t) (l .i) (l .inv .2) (rw closings-length (c .loop-test .left)))
 
 pub closing-references-ok-spec : {M : Type 1} → statement M
 closing-references-ok-spec =
@@ -92,10 +85,9 @@ closing-references-ok-spec =
     Inv-loop
     μ-loop
     closings-from-requires
+    first-gate-requires
     shared-slice-read-references
     add-references
-    shared-slice-read-references-2
-    add-references-2
     shared-slice-read-outputs
     cast-outputs
     loop-holds

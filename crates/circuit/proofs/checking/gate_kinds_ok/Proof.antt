@@ -1,3 +1,4 @@
+-- Laws of `allGates`: the test of the gates from gate i on is the whole's.
 use mathlib.Core.Path.{_≡_}
 use Prim.Native.Nat.{_+_, _-_, _≤_}
 use lib.ListN.{drop}
@@ -7,7 +8,7 @@ use Rattle.circuit.specs.Refusal.{hasGateKind}
 use Rattle.circuit.specs.Each.{allGates}
 use Rattle.circuit.specs.Table.{inputs, gates, gateLines}
 use Rattle.circuit.specs.Circuit.{firstGate}
-use Rattle.circuit.proofs.TableLaws.{gates-length, gate-step-from}
+use Rattle.circuit.proofs.TableLaws.{gates-length, gate-step}
 use Rattle.circuit.proofs.EachLaws.{all-none, all-pass, all-fail, all-end}
 use Rattle.circuit.proofs.checking.gate_kinds_ok.Statement.{statement}
 use Rattle.circuit.proofs.checking.gate_kinds_ok.Tie as tie
@@ -49,7 +50,7 @@ returns c =
     let l = c .before .before .before in
     let t = l .before .before .before .before .args .t .now in
     let i = l .loop .i in
-    all-fail hasGateKind (firstGate (inputs t)) (gateLines t) i (l .loop .inv .1) _ (gate-step-from t i _ (l .before .before .gates-from .ensures) (c .before .before .loop-test .taken)) (not-true _ (c .if1 .taken))
+    all-fail hasGateKind (firstGate (inputs t)) (gateLines t) i (l .loop .inv .1) _ (gate-step t i _ (l .before .before .gates-from .ensures) (c .before .before .loop-test .taken)) (not-true _ (c .if1 .taken))
 
 add-i : tie.Need-add-i Inv-loop μ-loop
 add-i c = search needs
@@ -62,7 +63,7 @@ loop-again c =
     let l = c .before .before .before in
     let t = l .before .before .before .before .args .t .now in
     let i = l .loop .i in
-    (search needs, all-pass hasGateKind (firstGate (inputs t)) (gateLines t) i (l .loop .inv .1) _ (gate-step-from t i _ (l .before .before .gates-from .ensures) (c .before .before .loop-test .taken)) (not-false _ (c .if1 .left)))
+    (search needs, all-pass hasGateKind (firstGate (inputs t)) (gateLines t) i (l .loop .inv .1) _ (gate-step t i _ (l .before .before .gates-from .ensures) (c .before .before .loop-test .taken)) (not-false _ (c .if1 .left)))
 
 returns-2 : tie.Need-returns-2 Inv-loop μ-loop
 returns-2 c =

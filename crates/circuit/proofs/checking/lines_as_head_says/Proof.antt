@@ -1,3 +1,4 @@
+-- By the definition of `tableEnd`; its sum is within a usize, as each number of the head is a 32-bit one.
 use mathlib.Core.Path.{ap}
 use Prim.Native.Nat.{_+_, _*_}
 use native.Mathlib.Omega.{arith}

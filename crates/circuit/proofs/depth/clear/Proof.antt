@@ -1,3 +1,4 @@
+-- Laws of `Written`: the first i places hold zeros.
 use mathlib.Core.List.{_++_}
 use mathlib.Core.Path.{_≡_, sym, ap, _∙_}
 use Prim.Native.Nat.{ℕ, _+_, _-_, _≤_}

@@ -1,3 +1,4 @@
+-- By the definition of `depthOp`, from what `larger` and `plus_and` give.
 use mathlib.Core.Path.{ap, _∙_}
 use borrow.Author.Needs.{needs}
 use Rattle.circuit.specs.Depth.{plusAnd}

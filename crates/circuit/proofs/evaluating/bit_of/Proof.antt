@@ -1,3 +1,4 @@
+-- The two ways of the test are the two of `bitOf`.
 use mathlib.Core.Path.{sym}
 use borrow.Author.Tests.{eq-eqb, ne-eqb}
 use Rattle.lists.proofs.First.{first-true, first-false}

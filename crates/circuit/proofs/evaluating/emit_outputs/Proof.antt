@@ -1,16 +1,17 @@
+-- Laws of `Written`: the bits of the first i outputs are there.
 use mathlib.Core.List.{_++_}
 use mathlib.Core.Path.{_≡_, sym, ap, _∙_}
-use Prim.Native.Nat.{_+_, _*_, _-_, _≤_, _<_}
+use Prim.Native.Nat.{_+_, _-_, _≤_}
 use native.Mathlib.Nat.{le-antisymm}
 use native.Mathlib.Omega.{arith}
 use lib.Seq.{getD-take}
-use lib.ListN.{take, drop, getD, length-map}
-use borrow.Author.Needs.{needs}
+use lib.ListN.{length, take, drop, getD, length-map}
+use Rattle.lists.proofs.Maps.{map-step}
 use Rattle.lists.proofs.Written.{Written, written-more, written-all}
 use Rattle.circuit.specs.Fold.{atOutputs}
-use Rattle.circuit.specs.Table.{outputs, refs, decode}
-use Rattle.circuit.proofs.RefusalLaws.{output-below}
-use Rattle.circuit.proofs.TableLaws.{outputs-length, output-at}
+use Rattle.circuit.specs.Table.{refs, decode}
+use Rattle.circuit.proofs.TableLaws.{outputs-length, output-next}
+use borrow.Author.Needs.{needs}
 use Rattle.circuit.proofs.evaluating.emit_outputs.Statement.{statement}
 use Rattle.circuit.proofs.evaluating.emit_outputs.Tie as tie
 
@@ -19,10 +20,6 @@ Inv-loop t bits out₀ from count i₀ out i = (i ≤ count) × Written (atOutpu
 
 abbrev μ-loop : tie.MeasureT-loop
 μ-loop t bits out₀ from count i₀ out i = count - i
-
--- in a turn, the output's reference is one of the circuit's
-below : (c : tie.In-loop Inv-loop μ-loop) → getD (c .before .before .before .before .before .before .before .args .t .now) (c .before .before .before .closings-from .result + 3 * c .before .loop .i + 1) 0 < refs (c .before .before .before .before .before .before .before .args .t .now)
-below c = rw (c .before .before .before .closings-from .ensures) (output-below _ (c .before .before .before .before .before .before .before .pre .0) (c .before .loop .i) (c .loop-test .taken))
 
 closings-from-requires : tie.Need-closings-from-requires Inv-loop μ-loop
 closings-from-requires c κs = search needs
@@ -36,26 +33,11 @@ cast-count c = search needs
 loop-holds : tie.Need-loop-holds Inv-loop μ-loop
 loop-holds c = search needs
 
-mul-reference : tie.Need-mul-reference Inv-loop μ-loop
-mul-reference c = search needs
-
-add-reference : tie.Need-add-reference Inv-loop μ-loop
-add-reference c = search needs
-
-add-reference-2 : tie.Need-add-reference-2 Inv-loop μ-loop
-add-reference-2 c = search needs
-
-mul-reference-2 : tie.Need-mul-reference-2 Inv-loop μ-loop
-mul-reference-2 c = search needs
-
-shared-slice-read-reference : tie.Need-shared-slice-read-reference Inv-loop μ-loop
-shared-slice-read-reference c = search needs
-
-cast-reference : tie.Need-cast-reference Inv-loop μ-loop
-cast-reference c = omega (arith, below (c .before))
+output-reference-requires : tie.Need-output-reference-requires Inv-loop μ-loop
+output-reference-requires c κs = search needs
 
 shared-slice-read-out : tie.Need-shared-slice-read-out Inv-loop μ-loop
-shared-slice-read-out c = omega (arith, below (c .before .before))
+shared-slice-read-out c = search needs
 
 slice-write-out : tie.Need-slice-write-out Inv-loop μ-loop
 slice-write-out c = search needs
@@ -68,16 +50,15 @@ loop-less c = search needs
 
 loop-again : tie.Need-loop-again Inv-loop μ-loop
 loop-again c =
-    let w = c .before .before in
-    let l = w .before in
-    let s = l .before .before .before .before .before .before in
+    let s = c .before .before .before .before .before .before .before .before .before in
     let t = s .args .t .now in
-    let bits = take (refs t) (s .args .bits .now) in
-    let i = l .loop .i in
-    let h = w .loop-test .taken in (
+    let bits = s .args .bits .now in
+    let l = c .before .before .before .loop in
+    let o = c .before .output-reference in
+    let h = c .before .before .loop-test .taken in (
       search needs,
-      written-more 0 (atOutputs 0 (decode t) bits) (s .args .out .now) (l .loop .out) i _ (l .loop .inv .1) (rw (length-map, outputs-length) h) (omega arith)
-          (rw (l .before .before .closings-from .ensures) (sym (output-at t i (λ o. getD bits o 0) 0 h ∙ getD-take (refs t) (s .args .bits .now) _ 0 (output-below t (s .pre .0) i h)))),
+      written-more 0 (atOutputs 0 (decode t) (take (refs t) bits)) (s .args .out .now) (l .out) (l .i) _ (l .inv .1) (rw (length-map, outputs-length) h) (omega arith)
+          (sym (map-step (λ v. getD (take (refs t) bits) v 0) (l .i) (decode t .outputs) _ _ 0 (output-next t (l .i) h) ∙ ap (λ v. getD (take (refs t) bits) v 0) (sym (o .ensures .0)) ∙ getD-take (refs t) bits (o .result) 0 (o .ensures .1))),
     )
 
 same-length : tie.Need-same-length Inv-loop μ-loop
@@ -85,12 +66,12 @@ same-length c = search needs
 
 returns : tie.Need-returns Inv-loop μ-loop
 returns c =
-    let l = c .before in
-    let s = l .before .before .before .before .before .before in
+    let l = c .before .loop in
+    let s = c .before .before .before .before .before .before .before in
     let t = s .args .t .now in
     let xs = atOutputs 0 (decode t) (take (refs t) (s .args .bits .now)) in
-    let e : l .loop .i ≡ outputs t = le-antisymm (l .loop .inv .0) (c .loop-test .left) in
-    written-all 0 xs (s .args .out .now) (l .loop .out) (l .loop .i) (l .loop .inv .1) (e ∙ sym (rw (length-map, outputs-length)))
+    let e : l .i ≡ length xs = le-antisymm (l .inv .0) (c .loop-test .left) ∙ sym (rw (length-map, outputs-length)) in
+    written-all 0 xs (s .args .out .now) (l .out) (l .i) (l .inv .1) e
     ∙ ap (λ k. xs ++ drop k (s .args .out .now)) e
 
 pub emit-outputs-spec : {M : Type 1} → statement M
@@ -103,12 +84,7 @@ emit-outputs-spec =
     shared-slice-read-count
     cast-count
     loop-holds
-    mul-reference
-    add-reference
-    add-reference-2
-    mul-reference-2
-    shared-slice-read-reference
-    cast-reference
+    output-reference-requires
     shared-slice-read-out
     slice-write-out
     add-i

@@ -1,3 +1,4 @@
+-- Rests on the three functions that it calls: what they leave is joined by law `evaluated`.
 use borrow.Author.Needs.{needs}
 use Rattle.circuit.proofs.EvaluateLaws.{evaluated}
 use Rattle.circuit.proofs.evaluating.evaluate_into.Statement.{statement}

@@ -1,3 +1,4 @@
+-- By the definition of `raise`: one store, of what `larger` gives.
 use mathlib.Core.Path.{ap}
 use Prim.Native.Nat.{_-_}
 use lib.ListN.{set}

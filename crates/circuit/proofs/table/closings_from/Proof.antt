@@ -1,3 +1,4 @@
+-- By the definition of `closingsFrom`; its sum is within a usize, as the number of gates is a 32-bit one.
 use native.Mathlib.Omega.{arith}
 use borrow.Author.Needs.{needs}
 use Rattle.circuit.proofs.table.closings_from.Statement.{statement}

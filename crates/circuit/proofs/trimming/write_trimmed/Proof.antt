@@ -1,17 +1,18 @@
-use Prim.Native.Nat.{_-_}
+-- The three parts make the table: laws `trim-stores` and `trim-end`.
+use mathlib.Core.Path.{_∙_}
+use Rattle.circuit.proofs.TrimmingLaws.{closings-room, trim-stores, trim-end}
 use borrow.Author.Needs.{needs}
-use Rattle.circuit.proofs.TrimmingLaws.{closings-room, trim-stores}
 use Rattle.circuit.proofs.trimming.write_trimmed.Statement.{statement}
 use Rattle.circuit.proofs.trimming.write_trimmed.Tie as tie
 
-shared-slice-read-write-line : tie.Need-shared-slice-read-write-line
-shared-slice-read-write-line c = search needs
+shared-slice-read-write-row : tie.Need-shared-slice-read-write-row
+shared-slice-read-write-row c = search needs
 
-shared-slice-read-write-line-2 : tie.Need-shared-slice-read-write-line-2
-shared-slice-read-write-line-2 c = search needs
+shared-slice-read-write-row-2 : tie.Need-shared-slice-read-write-row-2
+shared-slice-read-write-row-2 c = search needs
 
-write-line-requires : tie.Need-write-line-requires
-write-line-requires c κs = search needs
+write-row-requires : tie.Need-write-row-requires
+write-row-requires c κs = search needs
 
 write-gates-requires : tie.Need-write-gates-requires
 write-gates-requires c κs =
@@ -30,15 +31,17 @@ same-length c = search needs
 returns : tie.Need-returns
 returns c =
     let s = c .before .before .before .before .before .before .before .before .before .before .before .before .before .before .before .before .before .before in
-    trim-stores (s .args .t .now) _ _ _ _ _ _ (s .pre .1 .1 .1 .1 .1 .0) (c .before .before .before .before .before .before .before .before .before .before .write-line .ensures) (c .before .before .before .before .before .before .write-gates .ensures .0) (c .before .before .before .before .before .before .write-gates .ensures .1) (c .before .before .write-closings .ensures)
+    let t = s .args .t .now in
+    let at = c .before .before .before .before .before .before .write-gates .ensures .1 in
+    (trim-stores t _ _ _ _ _ _ (s .pre .1 .1 .1 .1 .1 .0) (c .before .before .before .before .before .before .before .before .before .before .write-row .ensures) (c .before .before .before .before .before .before .write-gates .ensures .0) at (c .before .before .write-closings .ensures .0) (s .pre .1 .1 .1 .1 .1 .1), c .before .before .write-closings .ensures .1 ∙ trim-end t _ at)
 
 pub write-trimmed-spec : {M : Type 1} → statement M
 write-trimmed-spec =
     tie.close
     (tie.spec
-    shared-slice-read-write-line
-    shared-slice-read-write-line-2
-    write-line-requires
+    shared-slice-read-write-row
+    shared-slice-read-write-row-2
+    write-row-requires
     write-gates-requires
     write-closings-requires
     same-length

@@ -1,3 +1,4 @@
+-- The invariant: the first i lines are right; a turn is `all-turn`, a wrong line `all-fails`.
 use mathlib.Core.Bool.{true}
 use mathlib.Core.Path.{_≡_, refl, sym, _∙_}
 use Prim.Native.Nat.{_≤_, _-_, zero-le}

@@ -1,3 +1,4 @@
+-- Law `line-test-at`: three numbers and byte 10 are a line.
 use native.Mathlib.Omega.{arith}
 use borrow.Author.Needs.{needs}
 use Rattle.lines.proofs.LineLaws.{line-test-at}

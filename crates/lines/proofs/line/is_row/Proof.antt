@@ -1,3 +1,4 @@
+-- By the definition of `isRow`.
 use native.Mathlib.Nat.{add-zero}
 use lib.Seq.{getD-drop}
 use borrow.Author.Needs.{needs}

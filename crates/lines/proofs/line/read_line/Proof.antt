@@ -1,3 +1,4 @@
+-- By the definition of `readLine`: three stores, each of what `read_number` gives.
 use native.Mathlib.Omega.{arith}
 use native.Mathlib.Numerals.{add-one}
 use lib.Seq.{drop-drop}

@@ -1,3 +1,4 @@
+-- Law `line-stores-at`: three numbers and byte 10, stored one after the other, are the line.
 use native.Mathlib.Omega.{arith}
 use lib.ListN.{length-set}
 use borrow.Author.Needs.{needs}

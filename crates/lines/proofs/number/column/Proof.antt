@@ -1,3 +1,4 @@
+-- The two ways of the test are the two of the promise; a digit's byte is below 58.
 use borrow.Author.Needs.{needs}
 use borrow.Author.Tests.{eq-eqb, ne-eqb}
 use Rattle.lines.proofs.number.column.Statement.{statement}

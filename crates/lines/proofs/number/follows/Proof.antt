@@ -1,3 +1,4 @@
+-- The two ways of the test are the two of the promise.
 use borrow.Author.Tests.{eq-eqb, ne-eqb}
 use Rattle.lines.proofs.number.follows.Statement.{statement}
 use Rattle.lines.proofs.number.follows.Tie as tie

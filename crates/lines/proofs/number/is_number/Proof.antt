@@ -1,3 +1,4 @@
+-- Law `number-test-at`: columns that follow each other, up to a last digit, are the writing of the number that they show.
 use native.Mathlib.Omega.{arith}
 use borrow.Author.Needs.{needs}
 use Rattle.lines.proofs.NumberLaws.{number-test-at}

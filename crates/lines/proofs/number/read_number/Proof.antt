@@ -1,3 +1,4 @@
+-- By the definition of `readNumber`; no sum is too large, as a column adds at most 207.
 use native.Mathlib.Nat.{add-zero}
 use lib.Seq.{getD-drop}
 use borrow.Author.Needs.{needs}

@@ -1,3 +1,4 @@
+-- Law `six-columns`: the writing of a number, column by column, is what the six stores put there.
 use native.Mathlib.Omega.{arith}
 use native.Mathlib.Numerals.{add-one}
 use lib.ListN.{length-set}

@@ -1,3 +1,4 @@
+-- Laws of `Mapped`: the lines of the first i rows stand in front, and beyond them what was there.
 use mathlib.Core.Path.{_≡_}
 use Prim.Native.Nat.{_≤_, _-_, zero-le}
 use native.Mathlib.Omega.{arith}

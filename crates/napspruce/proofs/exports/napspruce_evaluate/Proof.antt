@@ -1,3 +1,4 @@
+-- Of either answer of `evaluate`, law `outcome-so`: the answer is packed, and the output bytes are as `evaluate` left them.
 use mathlib.Core.Path.{refl, ap}
 use borrow.Author.Needs.{needs}
 use Rattle.circuit.specs.EvaluateCall.{paperValues}

@@ -1,3 +1,4 @@
+-- Of either answer of `judge`, law `packed-so`: what is known of the answer is known of its packed form.
 use mathlib.Core.Path.{refl, ap}
 use borrow.Author.Needs.{needs}
 use Rattle.rules.specs.JudgeCall.{paperValues}

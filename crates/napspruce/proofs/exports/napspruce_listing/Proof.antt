@@ -1,3 +1,4 @@
+-- Of either answer of `list`, law `outcome-so`: the answer is packed, and the listing's buffer is as `list` left it.
 use mathlib.Core.Path.{refl, ap}
 use borrow.Author.Needs.{needs}
 use Rattle.napspruce.specs.ListingCall.{paperValues}

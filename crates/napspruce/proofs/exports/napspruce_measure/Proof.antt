@@ -1,3 +1,4 @@
+-- Of either answer of `measure`, law `packed-so`: what is known of the answer is known of its packed form.
 use mathlib.Core.Path.{ap}
 use borrow.Author.Needs.{needs}
 use Rattle.circuit.specs.MeasureCall.{paperValues}

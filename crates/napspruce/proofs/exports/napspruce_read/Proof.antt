@@ -1,3 +1,4 @@
+-- Of either answer of `lines::read`, law `outcome-so`: the answer is packed (a success is 0), and the table is as the reading left it.
 use mathlib.Core.Path.{refl, ap}
 use borrow.Author.Needs.{needs}
 use Rattle.lines.specs.Refusal.{paperValues}

@@ -1,3 +1,4 @@
+-- As the other exports, by `rewriting-so`; that each number fits its 12 bits, and that a refusal is told from a success, is `rewrite-is-within`.
 use mathlib.Core.Path.{ap}
 use borrow.Author.Needs.{needs}
 use Rattle.rewriting.specs.RewriteCall.{paperValues}

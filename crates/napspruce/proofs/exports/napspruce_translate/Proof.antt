@@ -1,3 +1,4 @@
+-- Of either answer of `translate`, law `outcome-so`: the answer is packed, and the program buffer is as `translate` left it.
 use mathlib.Core.Path.{ap}
 use borrow.Author.Needs.{needs}
 use Rattle.translator.specs.TranslateCall.{paperValues}

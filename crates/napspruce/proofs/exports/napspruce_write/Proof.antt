@@ -1,3 +1,4 @@
+-- Of either answer of `lines::write`, law `outcome-so`: the answer is packed (a success is 0), and the text is as the writing left it.
 use mathlib.Core.Path.{refl, ap}
 use borrow.Author.Needs.{needs}
 use Rattle.lines.specs.Refusal.{paperValues}

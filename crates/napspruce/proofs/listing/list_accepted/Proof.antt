@@ -1,9 +1,9 @@
+-- Each text is read as far as its front, which is listed as the whole (`fronts-listed` in CallLaws).
 use mathlib.Core.Path.{_∙_}
-use Prim.Native.Nat.{ℕ}
-use lib.ListN.{replicate}
 use borrow.Author.Needs.{needs}
 use Rattle.lines.specs.Text.{readText}
-use Rattle.napspruce.specs.Front.{maxCircuitLines, maxRulesLines, maxSitesLines, front}
+use Rattle.circuit.specs.Circuit.{maxLines}
+use Rattle.napspruce.specs.Front.{maxRulesLines, maxSitesLines, front}
 use Rattle.napspruce.proofs.CallLaws.{numbers-fit, numbers-count, numbers-read, numbers-whole, front-whole, fronts-listed}
 use Rattle.napspruce.proofs.listing.list_accepted.Statement.{statement}
 use Rattle.napspruce.proofs.listing.list_accepted.Tie as tie
@@ -29,32 +29,32 @@ read-front-requires-3 c κs = search needs
 array-share-prefix-circuit-table : tie.Need-array-share-prefix-circuit-table
 array-share-prefix-circuit-table c =
     let r = c .before .before .before .before .before .before .before .read-front in
-    numbers-fit (front maxCircuitLines (readText (c .before .before .before .before .before .before .before .before .before .before .before .before .before .args .circuit .now))) (replicate {A = ℕ} 6918 0) (r .last .1 .0) (r .result) (r .ensures .0) (r .ensures .1)
+    numbers-fit (front maxLines (readText (c .before .before .before .before .before .before .before .before .before .before .before .before .before .args .circuit .now))) _ (r .last .1 .0) (r .result) (r .ensures .0) (r .ensures .1)
 
 slice-aggregate-list-tables : tie.Need-slice-aggregate-list-tables
 slice-aggregate-list-tables c =
     let r = c .before .before .before .before .before .before .before .before .read-front in
-    numbers-count (front maxCircuitLines (readText (c .before .before .before .before .before .before .before .before .before .before .before .before .before .before .args .circuit .now))) (replicate {A = ℕ} 6918 0) (r .last .1 .0) (r .result) (r .ensures .0) (r .ensures .1)
+    numbers-count (front maxLines (readText (c .before .before .before .before .before .before .before .before .before .before .before .before .before .before .args .circuit .now))) _ (r .last .1 .0) (r .result) (r .ensures .0) (r .ensures .1)
 
 array-share-prefix-rules-table : tie.Need-array-share-prefix-rules-table
 array-share-prefix-rules-table c =
     let r = c .before .before .before .before .before .read-front2 in
-    numbers-fit (front maxRulesLines (readText (c .before .before .before .before .before .before .before .before .before .before .before .before .before .before .args .rules .now))) (replicate {A = ℕ} 6150 0) (r .last .1 .0) (r .result) (r .ensures .0) (r .ensures .1)
+    numbers-fit (front maxRulesLines (readText (c .before .before .before .before .before .before .before .before .before .before .before .before .before .before .args .rules .now))) _ (r .last .1 .0) (r .result) (r .ensures .0) (r .ensures .1)
 
 slice-aggregate-list-tables-2 : tie.Need-slice-aggregate-list-tables-2
 slice-aggregate-list-tables-2 c =
     let r = c .before .before .before .before .before .before .read-front2 in
-    numbers-count (front maxRulesLines (readText (c .before .before .before .before .before .before .before .before .before .before .before .before .before .before .before .args .rules .now))) (replicate {A = ℕ} 6150 0) (r .last .1 .0) (r .result) (r .ensures .0) (r .ensures .1)
+    numbers-count (front maxRulesLines (readText (c .before .before .before .before .before .before .before .before .before .before .before .before .before .before .before .args .rules .now))) _ (r .last .1 .0) (r .result) (r .ensures .0) (r .ensures .1)
 
 array-share-prefix-sites-table : tie.Need-array-share-prefix-sites-table
 array-share-prefix-sites-table c =
     let r = c .before .before .before .read-front3 in
-    numbers-fit (front maxSitesLines (readText (c .before .before .before .before .before .before .before .before .before .before .before .before .before .before .before .args .sites .now))) (replicate {A = ℕ} 1542 0) (r .last .1 .0) (r .result) (r .ensures .0) (r .ensures .1)
+    numbers-fit (front maxSitesLines (readText (c .before .before .before .before .before .before .before .before .before .before .before .before .before .before .before .args .sites .now))) _ (r .last .1 .0) (r .result) (r .ensures .0) (r .ensures .1)
 
 slice-aggregate-list-tables-3 : tie.Need-slice-aggregate-list-tables-3
 slice-aggregate-list-tables-3 c =
     let r = c .before .before .before .before .read-front3 in
-    numbers-count (front maxSitesLines (readText (c .before .before .before .before .before .before .before .before .before .before .before .before .before .before .before .before .args .sites .now))) (replicate {A = ℕ} 1542 0) (r .last .1 .0) (r .result) (r .ensures .0) (r .ensures .1)
+    numbers-count (front maxSitesLines (readText (c .before .before .before .before .before .before .before .before .before .before .before .before .before .before .before .before .args .sites .now))) _ (r .last .1 .0) (r .result) (r .ensures .0) (r .ensures .1)
 
 list-tables-requires : tie.Need-list-tables-requires
 list-tables-requires c κs =
@@ -63,7 +63,7 @@ list-tables-requires c κs =
     let rc = c .before .before .before .before .before .before .before .before .before .before .before .read-front in
     let rr = c .before .before .before .before .before .before .before .before .read-front2 in
     let rs = c .before .before .before .before .before .read-front3 in (
-      numbers-whole _ _ _ _ (rc .ensures .0) (rc .ensures .1) (front-whole maxCircuitLines (a .circuit .now) (s .pre .0)),
+      numbers-whole _ _ _ _ (rc .ensures .0) (rc .ensures .1) (front-whole maxLines (a .circuit .now) (s .pre .0)),
       (
         numbers-whole _ _ _ _ (rr .ensures .0) (rr .ensures .1) (front-whole maxRulesLines (a .rules .now) (s .pre .1 .0)),
         (numbers-whole _ _ _ _ (rs .ensures .0) (rs .ensures .1) (front-whole maxSitesLines (a .sites .now) (s .pre .1 .1 .0)), s .pre .1 .1 .1),

@@ -1,13 +1,15 @@
+-- What `rewrite` answers, on buffers with room, is what the listing is of (`Rewrote`, `listed-refused` in CallLaws).
 use mathlib.Core.Path.{sym, ap, _∙_}
 use Prim.Native.Nat.{ℕ}
 use native.Mathlib.Omega.{arith}
-use lib.ListN.{replicate, length-replicate}
+use lib.ListN.{length-replicate}
 use borrow.Author.Needs.{needs}
 use Rattle.lines.specs.Text.{isTable}
 use Rattle.lines.proofs.CallLaws.{whole-is}
-use Rattle.rules.specs.SiteTable.{siteCount}
-use Rattle.rewriting.specs.RewriteCall.{paperValues as rewrittenValues, Outcome, outcomeOf}
-use Rattle.napspruce.specs.ListingCall.{putting}
+use Rattle.circuit.specs.Circuit.{maxTable}
+use Rattle.rules.specs.SiteTable.{siteCount, maxSites}
+use Rattle.rewriting.specs.RewriteCall.{paperValues as rewrittenValues, outcomeOf}
+use Rattle.napspruce.specs.ListingCall.{listingNumbers}
 use Rattle.napspruce.proofs.CallLaws.{Rewrote, rewrote, enough-room, listed-done, listed-refused}
 use Rattle.napspruce.proofs.listing.list_tables.Statement.{statement}
 use Rattle.napspruce.proofs.listing.list_tables.Tie as tie
@@ -34,7 +36,7 @@ so : (k : tie.After-known-told) → let a = k .before .before .before .before .b
 so k =
     let a = k .before .before .before .before .before .before .before .before .before .before .before .before .before .before .args in
     let r = k .before .before .before .before .before .before .rewrite in
-    rewrote (a .circuit .now) (a .rules .now) (a .sites .now) (replicate {A = ℕ} 8460 0) (replicate {A = ℕ} 6915 0) (replicate {A = ℕ} 512 0) (r .last .1 .1 .1 .0) (r .last .1 .1 .1 .1 .0)
+    rewrote (a .circuit .now) (a .rules .now) (a .sites .now) _ _ _ (r .last .1 .1 .1 .0) (r .last .1 .1 .1 .1 .0)
     (r .last .1 .1 .1 .1 .1 .0) _ _ _ _ _ _
     (ap (λ x. outcomeOf (rewrittenValues x) (r .last .1 .1 .1 .0) (r .last .1 .1 .1 .1 .0) (r .last .1 .1 .1 .1 .1 .0)) (sym (k .before .lines .given .1)) ∙ r .ensures)
 
@@ -56,9 +58,9 @@ write-listing-requires c κs =
     let w = so k in
     let r = k .before .before .before .before .before .before .rewrite in
     let s = k .before .before .before .before .before .before .before .before .before .before .before .before .before .before in (
-      omega (arith, w .line-limit, w .site-limit, r .kept .1 .1 .1 .0, length-replicate {A = ℕ} 8460 0),
+      omega (arith, w .line-limit, w .site-limit, r .kept .1 .1 .1 .0, length-replicate {A = ℕ} listingNumbers 0),
       (
-        omega (arith, w .site-limit, r .kept .1 .1 .1 .1 .1 .0, length-replicate {A = ℕ} 512 0),
+        omega (arith, w .site-limit, r .kept .1 .1 .1 .1 .1 .0, length-replicate {A = ℕ} maxSites 0),
         (w .site-limit, (ap isTable (w .numbers) ∙ w .writable, omega (arith, w .line-limit, w .site-limit, s .pre .1 .1 .1))),
       ),
     )
@@ -82,9 +84,9 @@ returns-2 c =
     let s = c .before .before .before .before .before .before .before .before .before .before .before .before .before .before in
     let a = s .args in
     let r = c .before .before .before .before .before .before .rewrite in
-    ap (λ x. putting x (a .listing .now))
-    (sym (listed-refused (a .circuit .now) (a .rules .now) (a .sites .now) (replicate {A = ℕ} 8460 0) (replicate {A = ℕ} 6915 0) (replicate {A = ℕ} 512 0) (s .pre .0) (s .pre .1 .0) (s .pre .1 .1 .0)
-    (enough-room 8460 6915 512 (omega arith) (omega arith) (omega arith)) _ _ (ap (λ (o : Outcome). o .answer) (sym (r .ensures)) ∙ ap (λ x. outcomeOf (rewrittenValues x) (r .last .1 .1 .1 .0) (r .last .1 .1 .1 .1 .0) (r .last .1 .1 .1 .1 .1 .0) .answer) (c .before .refusal .given .1))))
+    listed-refused (a .circuit .now) (a .rules .now) (a .sites .now) _ _ _ (s .pre .0) (s .pre .1 .0) (s .pre .1 .1 .0)
+    (enough-room listingNumbers maxTable maxSites (omega arith) (omega arith) (omega arith)) _ _
+    (ap (λ o. o .answer) (sym (r .ensures)) ∙ ap rewrittenValues (c .before .refusal .given .1)) (a .listing .now)
 
 pub list-tables-spec : {M : Type 1} → statement M
 list-tables-spec =

@@ -1,3 +1,4 @@
+-- The summary and the verdicts are stored behind the circuit's lines, and the whole is written: laws `listing-length` and `listing-written` of WriteLaws.
 use mathlib.Core.Path.{_≡_, refl, sym}
 use Prim.Native.Nat.{_+_, _*_}
 use native.Mathlib.Omega.{arith}

@@ -1,3 +1,4 @@
+-- Three rows make the summary: law `summary-stores`.
 use mathlib.Core.Path.{ap, _∙_}
 use mathlib.Core.List.{[], _∷_}
 use Prim.Native.Nat.{_+_}
@@ -8,20 +9,20 @@ use Rattle.napspruce.proofs.NumberLaws.{summary-stores}
 use Rattle.napspruce.proofs.numbers.write_summary.Statement.{statement}
 use Rattle.napspruce.proofs.numbers.write_summary.Tie as tie
 
-write-line-requires : tie.Need-write-line-requires
-write-line-requires c κs = search needs
+write-row-requires : tie.Need-write-row-requires
+write-row-requires c κs = search needs
 
-add-write-line : tie.Need-add-write-line
-add-write-line c = search needs
+add-write-row : tie.Need-add-write-row
+add-write-row c = search needs
 
-write-line-requires-2 : tie.Need-write-line-requires-2
-write-line-requires-2 c κs = search needs
+write-row-requires-2 : tie.Need-write-row-requires-2
+write-row-requires-2 c κs = search needs
 
-add-write-line-2 : tie.Need-add-write-line-2
-add-write-line-2 c = search needs
+add-write-row-2 : tie.Need-add-write-row-2
+add-write-row-2 c = search needs
 
-write-line-requires-3 : tie.Need-write-line-requires-3
-write-line-requires-3 c κs = search needs
+write-row-requires-3 : tie.Need-write-row-requires-3
+write-row-requires-3 c κs = search needs
 
 same-length : tie.Need-same-length
 same-length c = search needs
@@ -30,9 +31,9 @@ returns : tie.Need-returns
 returns c =
     let s = c .before .before .before .before .before .before .before .before .before .before .before .before .before in
     let a = s .args in
-    let w1 = c .before .before .before .before .before .before .before .before .before .before .write-line in
-    let w2 = c .before .before .before .before .before .before .write-line2 in
-    let w3 = c .before .before .write-line3 in
+    let w1 = c .before .before .before .before .before .before .before .before .before .before .write-row in
+    let w2 = c .before .before .before .before .before .before .write-row2 in
+    let w3 = c .before .before .write-row3 in
     w3 .ensures ∙ ap (λ d. sets d (a .at + 6) (countsKind ∷ a .s .sites ∷ a .s .kept ∷ []))
     (w2 .ensures ∙ ap (λ d. sets d (a .at + 3) (newPairKind ∷ a .s .new .depth ∷ a .s .new .critical ∷ [])) (w1 .ensures))
     ∙ summary-stores (a .table .now) (a .at) (a .s)
@@ -41,10 +42,10 @@ pub write-summary-spec : {M : Type 1} → statement M
 write-summary-spec =
     tie.close
     (tie.spec
-    write-line-requires
-    add-write-line
-    write-line-requires-2
-    add-write-line-2
-    write-line-requires-3
+    write-row-requires
+    add-write-row
+    write-row-requires-2
+    add-write-row-2
+    write-row-requires-3
     same-length
     returns)

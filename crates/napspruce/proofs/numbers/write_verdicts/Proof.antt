@@ -1,3 +1,4 @@
+-- One row a verdict: the rows of the first i verdicts are there.
 use mathlib.Core.Path.{_≡_, refl, _∙_}
 use Prim.Native.Nat.{_+_, _-_, _≤_, zero-le}
 use native.Mathlib.Omega.{arith}
@@ -29,14 +30,14 @@ cast-number c = search needs
 add-number : tie.Need-add-number Inv-loop μ-loop
 add-number c = search needs
 
-mul-write-line : tie.Need-mul-write-line Inv-loop μ-loop
-mul-write-line c = search needs
+mul-write-row : tie.Need-mul-write-row Inv-loop μ-loop
+mul-write-row c = search needs
 
-add-write-line : tie.Need-add-write-line Inv-loop μ-loop
-add-write-line c = search needs
+add-write-row : tie.Need-add-write-row Inv-loop μ-loop
+add-write-row c = search needs
 
-write-line-requires : tie.Need-write-line-requires Inv-loop μ-loop
-write-line-requires c κs = search needs
+write-row-requires : tie.Need-write-row-requires Inv-loop μ-loop
+write-row-requires c κs = search needs
 
 add-i : tie.Need-add-i Inv-loop μ-loop
 add-i c = search needs
@@ -54,7 +55,7 @@ loop-again c =
       search needs,
       verdicts-more vs (s .args .table .now) (s .args .at) (l .table) (l .i) (l .inv .1) (l .i + 1) _ _ (omega arith) refl
           (c .before .before .before .before .verdict-number .ensures ∙ first-verdict (s .args .verdicts .now) (s .args .count) (l .i) h)
-          (c .before .before .write-line .ensures),
+          (c .before .before .write-row .ensures),
     )
 
 same-length : tie.Need-same-length Inv-loop μ-loop
@@ -79,9 +80,9 @@ write-verdicts-spec =
     verdict-number-requires
     cast-number
     add-number
-    mul-write-line
-    add-write-line
-    write-line-requires
+    mul-write-row
+    add-write-row
+    write-row-requires
     add-i
     loop-less
     loop-again

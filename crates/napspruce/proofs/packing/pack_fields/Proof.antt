@@ -1,3 +1,4 @@
+-- What `append` promises, four times; the fields' limits are what it asks for.
 use borrow.Author.Needs.{needs}
 use Rattle.napspruce.proofs.packing.pack_fields.Statement.{statement}
 use Rattle.napspruce.proofs.packing.pack_fields.Tie as tie

@@ -1,3 +1,4 @@
+-- The sum is the definition of `packRefusal`; of two 32-bit numbers, it is within 64 bits.
 use borrow.Author.Needs.{needs}
 use Rattle.napspruce.proofs.packing.pack_refusal.Statement.{statement}
 use Rattle.napspruce.proofs.packing.pack_refusal.Tie as tie

@@ -1,3 +1,4 @@
+-- The two answers of `list`: laws `printed-listing` and `printed-refusal` of ListingTheorems; a refusal's numbers have at most six digits by `refused-small`.
 use mathlib.Core.Path.{sym, ap, _∙_}
 use Prim.Native.Nat.{_≤_}
 use lib.ListN.{length}

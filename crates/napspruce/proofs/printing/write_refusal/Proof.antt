@@ -1,3 +1,4 @@
+-- One line of three numbers is written: laws `refusal-length` and `refusal-written` of WriteLaws.
 use borrow.Author.Needs.{needs}
 use Rattle.napspruce.proofs.WriteLaws.{refusal-length, refusal-written}
 use Rattle.napspruce.proofs.printing.write_refusal.Statement.{statement}

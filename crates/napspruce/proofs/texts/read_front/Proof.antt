@@ -1,3 +1,4 @@
+-- `front-count` bounds the lines that are read; what `lines::read` leaves of them is the front by `front-is-read` (TextLaws).
 use mathlib.Core.Path.{sym}
 use Prim.Native.Nat.{_*_, _/_, _≤_, _<_}
 use native.Mathlib.Omega.{arith}

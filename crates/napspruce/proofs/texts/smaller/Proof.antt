@@ -1,3 +1,4 @@
+-- The two ways of the test are the two of `first`.
 use mathlib.Core.Path.{sym}
 use borrow.Author.Tests.{lt-ltb, le-ltb}
 use Rattle.lists.proofs.First.{first-true, first-false}

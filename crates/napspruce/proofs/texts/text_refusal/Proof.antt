@@ -1,3 +1,4 @@
+-- The two answers of `validate`: laws `text-valid` and `text-refused` of TextLaws.
 use mathlib.Core.Path.{sym, ap, _∙_}
 use borrow.Author.Needs.{needs}
 use Rattle.lines.specs.Refusal.{paperValues}

@@ -1,3 +1,4 @@
+-- The two cases of `instanceOf`; what is bound is above 0, so that one can be taken off.
 use mathlib.Core.Path.{sym}
 use borrow.Author.Needs.{needs}
 use Rattle.rewriting.proofs.ReplacementLaws.{instance-low, instance-high}
@@ -16,7 +17,7 @@ sub-result c = let s = c .before .before in s .pre .1 .1 (s .args .r) (c .before
 returns : tie.Need-returns
 returns c =
     let s = c .before .before in
-    sym (instance-low (s .args .start) (s .args .gate) (s .args .b .now) (s .args .r) (c .before .if1 .taken))
+    sym (instance-low (s .args .base) (s .args .gate) (s .args .b .now) (s .args .r) (c .before .if1 .taken))
 
 add-result : tie.Need-add-result
 add-result c = search needs
@@ -24,7 +25,7 @@ add-result c = search needs
 returns-2 : tie.Need-returns-2
 returns-2 c =
     let s = c .before in
-    sym (instance-high (s .args .start) (s .args .gate) (s .args .b .now) (s .args .r) (c .if1 .left))
+    sym (instance-high (s .args .base) (s .args .gate) (s .args .b .now) (s .args .r) (c .if1 .left))
 
 pub instance-of-spec : {M : Type 1} → statement M
 instance-of-spec =

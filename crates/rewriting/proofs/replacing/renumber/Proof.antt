@@ -1,3 +1,4 @@
+-- The three cases of `renumber`.
 use mathlib.Core.Path.{sym}
 use native.Mathlib.Omega.{arith}
 use borrow.Author.Needs.{needs}

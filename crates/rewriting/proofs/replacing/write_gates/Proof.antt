@@ -1,20 +1,22 @@
+-- Laws of `LinesTo`: the lines of the first i gates are there.
 use mathlib.Core.Path.{_≡_, refl, ap, _∙_}
-use Prim.Native.Nat.{_+_, _*_, _-_, _≤_}
+use Prim.Native.Nat.{_-_, _≤_}
 use native.Mathlib.Omega.{arith}
 use lib.Seq.{slice}
-use borrow.Author.Needs.{needs}
-use Rattle.circuit.specs.Table.{gatesFrom, lineAt, gateLines}
+use Rattle.circuit.specs.Circuit.{Gate}
+use Rattle.circuit.specs.Table.{gateLines}
 use Rattle.circuit.specs.Trim.{renameGate}
 use Rattle.rewriting.specs.Replacement.{renumber}
 use Rattle.rewriting.proofs.LineLaws.{LinesTo, lines-none, lines-more, lines-all, part-length, part-step}
+use borrow.Author.Needs.{needs}
 use Rattle.rewriting.proofs.replacing.write_gates.Statement.{statement}
 use Rattle.rewriting.proofs.replacing.write_gates.Tie as tie
 
 abbrev Inv-loop : tie.InvT-loop
-Inv-loop c from to s out₀ at n i₀ out i = (i ≤ n) × (n ≡ to - from) × LinesTo (renameGate (renumber (s .gate) (s .closing) (s .count))) (slice from to (gateLines c)) out₀ at out i
+Inv-loop c lines from to s out₀ at n i₀ out i = (i ≤ n) × (n ≡ to - from) × LinesTo (renameGate (renumber (s .gate) (s .closing) (s .count))) (slice from to (gateLines c)) out₀ at out i
 
 abbrev μ-loop : tie.MeasureT-loop
-μ-loop c from to s out₀ at n i₀ out i = n - i
+μ-loop c lines from to s out₀ at n i₀ out i = n - i
 
 sub-n : tie.Need-sub-n Inv-loop μ-loop
 sub-n c = search needs
@@ -36,14 +38,14 @@ renumber-requires c κs = search needs
 renumber-requires-2 : tie.Need-renumber-requires-2 Inv-loop μ-loop
 renumber-requires-2 c κs = search needs
 
-mul-write-line : tie.Need-mul-write-line Inv-loop μ-loop
-mul-write-line c = search needs
+mul-write-row : tie.Need-mul-write-row Inv-loop μ-loop
+mul-write-row c = search needs
 
-add-write-line : tie.Need-add-write-line Inv-loop μ-loop
-add-write-line c = search needs
+add-write-row : tie.Need-add-write-row Inv-loop μ-loop
+add-write-row c = search needs
 
-write-line-requires : tie.Need-write-line-requires Inv-loop μ-loop
-write-line-requires c κs = search needs
+write-row-requires : tie.Need-write-row-requires Inv-loop μ-loop
+write-row-requires c κs = search needs
 
 add-i : tie.Need-add-i Inv-loop μ-loop
 add-i c = search needs
@@ -54,16 +56,15 @@ loop-less c = search needs
 loop-again : tie.Need-loop-again Inv-loop μ-loop
 loop-again c =
     let l = c .before .before .before .before .before .before .before .before .loop in
-    let s = c .before .before .before .before .before .before .before .before .before .before .before in
-    let a = s .args in
-    let g = c .before .before .before .before .before .before .gate-line in
+    let a = c .before .before .before .before .before .before .before .before .before .before .before .args in
+    let g = c .before .before .before .before .before .before .gate-line .ensures .0 in
     let ρ = renumber (a .s .gate) (a .s .closing) (a .s .count) in (
       search needs,
       l .inv .1,
-      lines-more _ _ _ _ (l .out) (l .i) (l .inv .2) (lineAt (a .c .now) (gatesFrom (a .c .now) + 3 * (a .from + l .i)))
-          (part-step (a .c .now) (a .from) (a .to) (s .pre .1 .0 .1) (l .i) (omega (arith, l .inv .1, c .before .before .before .before .before .before .before .loop-test .taken)))
-          _ _ _ (g .ensures .0) (c .before .before .before .before .before .renumber .ensures ∙ ap ρ (g .ensures .1 .0)) (c .before .before .before .before .renumber2 .ensures ∙ ap ρ (g .ensures .1 .1 .0))
-          _ (c .before .before .write-line .ensures),
+      lines-more _ _ _ _ (l .out) (l .i) (l .inv .2) _
+          (part-step (a .c .now) (a .from) (a .to) (c .before .before .before .before .before .before .before .before .before .before .before .pre .1 .1 .0 .1) (l .i) (omega (arith, l .inv .1, c .before .before .before .before .before .before .before .loop-test .taken)))
+          _ _ _ (ap (λ (x : Gate). x .kind) g) (c .before .before .before .before .before .renumber .ensures ∙ ap (λ (x : Gate). ρ (x .left)) g) (c .before .before .before .before .renumber2 .ensures ∙ ap (λ (x : Gate). ρ (x .right)) g)
+          _ (c .before .before .write-row .ensures),
     )
 
 mul-result : tie.Need-mul-result Inv-loop μ-loop
@@ -78,29 +79,8 @@ same-length c = search needs
 returns : tie.Need-returns Inv-loop μ-loop
 returns c =
     let l = c .before .loop in
-    let s = c .before .before .before .before in
-    let a = s .args in
-    (lines-all _ _ _ _ (l .out) (l .i) (l .inv .2) (omega (arith, part-length (a .c .now) (a .from) (a .to) (s .pre .1 .0 .1), c .loop-test .left, l .inv .1)), refl)
+    let a = c .before .before .before .before .args in
+    (lines-all _ _ _ _ (l .out) (l .i) (l .inv .2) (omega (arith, part-length (a .c .now) (a .from) (a .to) (c .before .before .before .before .pre .1 .1 .0 .1), c .loop-test .left, l .inv .1)), refl)
 
 pub write-gates-spec : {M : Type 1} → statement M
-write-gates-spec =
-    tie.close
-    (tie.spec
-    Inv-loop
-    μ-loop
-    sub-n
-    loop-holds
-    add-gate-line
-    gate-line-requires
-    renumber-requires
-    renumber-requires-2
-    mul-write-line
-    add-write-line
-    write-line-requires
-    add-i
-    loop-less
-    loop-again
-    mul-result
-    add-result
-    same-length
-    returns)
+write-gates-spec = tie.close (tie.spec Inv-loop μ-loop sub-n loop-holds add-gate-line gate-line-requires renumber-requires renumber-requires-2 mul-write-row add-write-row write-row-requires add-i loop-less loop-again mul-result add-result same-length returns)

@@ -1,3 +1,4 @@
+-- Laws of `LinesTo`: the lines of the first i right gates are there.
 use mathlib.Core.Path.{refl}
 use Prim.Native.Nat.{_+_, _*_, _-_, _≤_}
 use native.Mathlib.Omega.{arith}
@@ -13,7 +14,7 @@ use Rattle.rewriting.proofs.replacing.write_rights.Statement.{statement
 use Rattle.rewriting.proofs.replacing.write_rights.Tie as tie
 
 abbrev Inv-loop : tie.InvT-loop
-Inv-loop t side gate b out₀ at n i₀ out i = (i ≤ n) × LinesTo (renameGate (instanceOf (side .first) gate b)) (linesOf (side .count) (drop (side .from) t)) out₀ at out i
+Inv-loop t side gate b out₀ at n i₀ out i = (i ≤ n) × LinesTo (renameGate (instanceOf (side .base) gate b)) (linesOf (side .count) (drop (side .from) t)) out₀ at out i
 
 abbrev μ-loop : tie.MeasureT-loop
 μ-loop t side gate b out₀ at n i₀ out i = n - i
@@ -24,7 +25,7 @@ cast-n c = search needs
 loop-holds : tie.Need-loop-holds Inv-loop μ-loop
 loop-holds c =
     let a = c .before .before .before .args in
-    (search needs, lines-none (renameGate (instanceOf (a .side .first) (a .gate) (a .b .now))) (linesOf (a .side .count) (drop (a .side .from) (a .t .now))) (a .out .now) (a .at))
+    (search needs, lines-none (renameGate (instanceOf (a .side .base) (a .gate) (a .b .now))) (linesOf (a .side .count) (drop (a .side .from) (a .t .now))) (a .out .now) (a .at))
 
 mul-q : tie.Need-mul-q Inv-loop μ-loop
 mul-q c = search needs
@@ -46,7 +47,7 @@ instance-of-requires c κs =
     let s = c .before .before .before .before .before .before .before in
     let a = s .args in
     let i = c .before .before .before .loop .i in
-    let o = operands-at (a .side .count) (a .side .from) (a .t .now) (a .side .first) (s .pre .1 .1 .0) i (c .before .before .loop-test .taken) in
+    let o = operands-at (a .side .count) (a .side .from) (a .t .now) (a .side .base) (s .pre .1 .1 .0) i (c .before .before .loop-test .taken) in
     ((s .pre .0 .0, omega (arith, o .0, c .before .before .loop-test .taken, s .pre .0 .1)), (s .pre .1 .1 .1 .0, s .pre .1 .1 .1 .1 .0))
 
 add-instance-of-2 : tie.Need-add-instance-of-2 Inv-loop μ-loop
@@ -63,23 +64,23 @@ instance-of-requires-2 c κs =
     let s = c .before .before .before .before .before .before .before .before .before in
     let a = s .args in
     let i = c .before .before .before .before .before .loop .i in
-    let o = operands-at (a .side .count) (a .side .from) (a .t .now) (a .side .first) (s .pre .1 .1 .0) i (c .before .before .before .before .loop-test .taken) in
+    let o = operands-at (a .side .count) (a .side .from) (a .t .now) (a .side .base) (s .pre .1 .1 .0) i (c .before .before .before .before .loop-test .taken) in
     ((s .pre .0 .0, omega (arith, o .1, c .before .before .before .before .loop-test .taken, s .pre .0 .1)), (s .pre .1 .1 .1 .0, s .pre .1 .1 .1 .1 .0))
 
-mul-write-line : tie.Need-mul-write-line Inv-loop μ-loop
-mul-write-line c = search needs
+mul-write-row : tie.Need-mul-write-row Inv-loop μ-loop
+mul-write-row c = search needs
 
-add-write-line : tie.Need-add-write-line Inv-loop μ-loop
-add-write-line c = search needs
+add-write-row : tie.Need-add-write-row Inv-loop μ-loop
+add-write-row c = search needs
 
-mul-write-line-2 : tie.Need-mul-write-line-2 Inv-loop μ-loop
-mul-write-line-2 c = search needs
+mul-write-row-2 : tie.Need-mul-write-row-2 Inv-loop μ-loop
+mul-write-row-2 c = search needs
 
-shared-slice-read-write-line : tie.Need-shared-slice-read-write-line Inv-loop μ-loop
-shared-slice-read-write-line c = search needs
+shared-slice-read-write-row : tie.Need-shared-slice-read-write-row Inv-loop μ-loop
+shared-slice-read-write-row c = search needs
 
-write-line-requires : tie.Need-write-line-requires Inv-loop μ-loop
-write-line-requires c κs = search needs
+write-row-requires : tie.Need-write-row-requires Inv-loop μ-loop
+write-row-requires c κs = search needs
 
 add-i : tie.Need-add-i Inv-loop μ-loop
 add-i c = search needs
@@ -94,7 +95,7 @@ loop-again c =
       search needs,
       lines-more _ _ _ _ (l .out) (l .i) (l .inv .1) (lineAt (a .t .now) (a .side .from + 3 * l .i))
           (step-from (a .side .from) (a .side .count) (a .t .now) (l .i) (c .before .before .before .before .before .before .before .before .before .before .loop-test .taken))
-          _ _ _ refl (c .before .before .before .before .before .before .before .instance-of .ensures) (c .before .before .before .before .before .instance-of2 .ensures) _ (c .before .before .write-line .ensures),
+          _ _ _ refl (c .before .before .before .before .before .before .before .instance-of .ensures) (c .before .before .before .before .before .instance-of2 .ensures) _ (c .before .before .write-row .ensures),
     )
 
 mul-result : tie.Need-mul-result Inv-loop μ-loop
@@ -130,11 +131,11 @@ write-rights-spec =
     mul-instance-of-2
     shared-slice-read-instance-of-2
     instance-of-requires-2
-    mul-write-line
-    add-write-line
-    mul-write-line-2
-    shared-slice-read-write-line
-    write-line-requires
+    mul-write-row
+    add-write-row
+    mul-write-row-2
+    shared-slice-read-write-row
+    write-row-requires
     add-i
     loop-less
     loop-again

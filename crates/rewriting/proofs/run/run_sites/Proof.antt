@@ -1,3 +1,4 @@
+-- Laws `turn-..`: the state and the verdict of each step are those of the definition.
 use mathlib.Core.List.{List}
 use mathlib.Core.Path.{_≡_, refl, sym, ap, _∙_}
 use Prim.Native.Nat.{ℕ, _+_, _*_, _-_, _≤_, _<_}
@@ -6,9 +7,9 @@ use lib.ListN.{length, getD}
 use borrow.Author.Needs.{needs}
 use Rattle.lists.proofs.Below.{below-length}
 use Rattle.lists.proofs.Written.{Written, written-none, written-more}
+use Rattle.circuit.specs.Circuit.{maxTable}
 use Rattle.rules.specs.SiteTable.{siteCount, sitesFrom, siteAt}
 use Rattle.rewriting.specs.Run.{State, Step, step, afterSites, verdictAt, verdictsOf}
-use Rattle.rewriting.specs.RewriteCall.{maxTable}
 use Rattle.rewriting.specs.RunState.{stateOf, stepOf, Held}
 use Rattle.rewriting.proofs.FrontLaws.{written-over}
 use Rattle.rewriting.proofs.RunLaws.{after-none, kept-limit}

@@ -1,3 +1,4 @@
+-- A loop that tests line by line: the laws of `allGates`.
 use mathlib.Core.Path.{_≡_}
 use Prim.Native.Nat.{_+_, _-_, _≤_}
 use lib.ListN.{drop}

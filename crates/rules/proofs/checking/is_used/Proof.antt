@@ -1,3 +1,4 @@
+-- A loop that looks for a user: `used-pass`, `used-hit`, `used-end`.
 use mathlib.Core.Path.{_≡_, refl}
 use Prim.Native.Nat.{_-_, _≤_}
 use lib.ListN.{drop}

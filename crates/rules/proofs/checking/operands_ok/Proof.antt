@@ -1,3 +1,4 @@
+-- A loop that tests line by line: the laws of `allGates`.
 use mathlib.Core.Path.{_≡_}
 use Prim.Native.Nat.{_+_, _-_, _≤_}
 use lib.ListN.{drop}
@@ -13,13 +14,13 @@ use Rattle.rules.proofs.checking.operands_ok.Statement.{statement}
 use Rattle.rules.proofs.checking.operands_ok.Tie as tie
 
 abbrev Inv-loop : tie.InvT-loop
-Inv-loop t q n holes first i₀ i = (i ≤ n) × (allGates operandsBelow (firstGate holes + i) (drop i (linesOf n (drop q t))) ≡ allGates operandsBelow (firstGate holes) (linesOf n (drop q t)))
+Inv-loop t q n holes base i₀ i = (i ≤ n) × (allGates operandsBelow (firstGate holes + i) (drop i (linesOf n (drop q t))) ≡ allGates operandsBelow (firstGate holes) (linesOf n (drop q t)))
 
 abbrev μ-loop : tie.MeasureT-loop
-μ-loop t q n holes first i₀ i = n - i
+μ-loop t q n holes base i₀ i = n - i
 
-add-first : tie.Need-add-first Inv-loop μ-loop
-add-first c = search needs
+add-base : tie.Need-add-base Inv-loop μ-loop
+add-base c = search needs
 
 loop-holds : tie.Need-loop-holds Inv-loop μ-loop
 loop-holds c = (search needs, all-none operandsBelow (firstGate (c .args .holes)) (linesOf (c .args .n) (drop (c .args .q) (c .args .t .now))))
@@ -84,7 +85,7 @@ operands-ok-spec =
     (tie.spec
     Inv-loop
     μ-loop
-    add-first
+    add-base
     loop-holds
     mul-p
     add-p

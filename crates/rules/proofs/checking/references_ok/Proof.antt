@@ -1,3 +1,4 @@
+-- The two sides' loops and the closing reference, read where the table's layout has them.
 use mathlib.Core.Bool.{_&&_}
 use mathlib.Core.Path.{sym, ap, ap₂, _∙_}
 use Prim.Native.Nat.{_+_}

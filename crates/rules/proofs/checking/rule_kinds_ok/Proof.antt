@@ -1,3 +1,4 @@
+-- The two sides' loops and the closing line, read where the table's layout has them.
 use mathlib.Core.Bool.{_&&_}
 use mathlib.Core.Path.{ap, ap₂, _∙_}
 use lib.ListN.{drop}

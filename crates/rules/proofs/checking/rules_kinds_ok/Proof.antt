@@ -1,3 +1,4 @@
+-- A loop over the rules that are left: the walk found each of them whole, and `allRules` is tested rule by rule.
 use mathlib.Core.Path.{_≡_, sym, ap, _∙_}
 use Prim.Native.Nat.{_-_}
 use native.Mathlib.Omega.{arith}

@@ -1,3 +1,4 @@
+-- The head may be any 32-bit number, which is multiplied within 64 bits.
 use mathlib.Core.Path.{ap}
 use Prim.Native.Nat.{_+_, _*_}
 use native.Mathlib.Omega.{arith}

@@ -1,3 +1,4 @@
+-- The loop's invariant is the walk from where it stands; each way out is a case of `walk`.
 use mathlib.Core.List.{List}
 use mathlib.Core.Bool.{true}
 use mathlib.Core.Path.{_≡_, sym, ap, _∙_}

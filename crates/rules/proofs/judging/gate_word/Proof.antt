@@ -1,3 +1,4 @@
+-- The two cases of `bitOp`.
 use borrow.Author.Tests.{eq-eqb, ne-eqb}
 use Rattle.circuit.specs.Evaluation.{bitOp}
 use Rattle.rules.proofs.judging.gate_word.Statement.{statement}

@@ -1,3 +1,4 @@
+-- The compare of the two sides' words is the judgement: law `side-judge`.
 use mathlib.Core.List.{List}
 use mathlib.Core.Bool.{true}
 use mathlib.Core.Path.{_≡_, ap, ap₂, _∙_}

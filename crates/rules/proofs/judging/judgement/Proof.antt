@@ -1,3 +1,4 @@
+-- There is no such rule, or it is judged at its place.
 use mathlib.Core.Bool.{true}
 use mathlib.Core.Path.{_≡_, sym, _∙_}
 use borrow.Author.Needs.{needs}

@@ -1,3 +1,4 @@
+-- The words so far are the values of the side's references (`SideTo`), from the masks of the constants and holes on.
 use mathlib.Core.Path.{refl}
 use Prim.Native.Nat.{_-_, _≤_}
 use native.Mathlib.Omega.{arith}
@@ -12,16 +13,16 @@ use Rattle.rules.proofs.judging.side_word.Statement.{statement}
 use Rattle.rules.proofs.judging.side_word.Tie as tie
 
 abbrev Inv-loop : tie.InvT-loop
-Inv-loop t q n holes r words₀ first i₀ words i = (i ≤ n) × SideTo t q n (firstGate holes) maxLeftReferences (startWords assignments holes) words i
+Inv-loop t q n holes r words₀ base i₀ words i = (i ≤ n) × SideTo t q n (firstGate holes) maxLeftReferences (startWords assignments holes) words i
 
 abbrev μ-loop : tie.MeasureT-loop
-μ-loop t q n holes r words₀ first i₀ words i = n - i
+μ-loop t q n holes r words₀ base i₀ words i = n - i
 
-cast-first : tie.Need-cast-first Inv-loop μ-loop
-cast-first c = search needs
+cast-base : tie.Need-cast-base Inv-loop μ-loop
+cast-base c = search needs
 
-add-first : tie.Need-add-first Inv-loop μ-loop
-add-first c = search needs
+add-base : tie.Need-add-base Inv-loop μ-loop
+add-base c = search needs
 
 loop-holds : tie.Need-loop-holds Inv-loop μ-loop
 loop-holds c =
@@ -148,8 +149,8 @@ side-word-spec =
     (tie.spec
     Inv-loop
     μ-loop
-    cast-first
-    add-first
+    cast-base
+    add-base
     loop-holds
     mul-left
     add-left

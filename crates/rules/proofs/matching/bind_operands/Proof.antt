@@ -1,3 +1,4 @@
+-- One binding, then the other if it succeeded: `then-some`, `then-none`.
 use mathlib.Core.Path.{_∙_}
 use Prim.Native.Nat.{_-_}
 use borrow.Author.Needs.{needs}

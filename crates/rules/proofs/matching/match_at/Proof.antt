@@ -1,3 +1,4 @@
+-- A mask bit beyond the left gates, or what the loop over them left from the start bindings on: `at-beyond`, `at-some`, `at-none`.
 use mathlib.Core.Path.{_∙_}
 use borrow.Author.Needs.{needs}
 use Rattle.circuit.specs.Table.{decode}

@@ -1,29 +1,31 @@
-use mathlib.Core.Path.{refl, _∙_}
+-- By the laws of one left gate's part, one to each way out; the kinds are compared by `same_kind`.
+use mathlib.Core.Path.{sym, _∙_}
 use Prim.Native.Nat.{_-_, _<_}
 use lib.ListN.{getD}
-use borrow.Author.Needs.{needs}
-use borrow.Author.Tests.{eq-eqb, ne-eqb}
-use Rattle.circuit.specs.Table.{inputs, gates, lineAt}
+use borrow.Author.Tests.{not-true, not-false}
 use Rattle.circuit.specs.Circuit.{firstGate}
+use Rattle.circuit.specs.Refusal.{hasGateKind}
+use Rattle.circuit.specs.Table.{inputs, gates, lineAt, gateLines}
+use Rattle.circuit.proofs.EachLaws.{all-at}
+use Rattle.circuit.proofs.TableLaws.{gate-next}
 use Rattle.rules.specs.Match.{bindOperands}
 use Rattle.rules.proofs.MatchLaws.{match-low, match-high, match-kind, match-cross, match-plain}
+use borrow.Author.Needs.{needs}
 use Rattle.rules.proofs.matching.match_gate.Statement.{statement}
 use Rattle.rules.proofs.matching.match_gate.Tie as tie
 
--- what the tests before it say of gate k, whose line was read
-low : (c : tie.After-gate-line)
-    → firstGate (inputs (c .before .before .before .before .before .before .before .before .args .c .now)) < getD (c .before .before .before .before .before .before .before .before .args .b .now) (c .before .before .before .before .before .before .before .before .args .m) 0
+-- what the tests before it say of the gate that was read
+low : (c : tie.After-gate-line) → firstGate (inputs (c .before .before .before .before .before .before .before .before .args .c .now)) < getD (c .before .before .before .before .before .before .before .before .args .b .now) (c .before .before .before .before .before .before .before .before .args .m) 0
 low c = c .before .before .before .if1 .left
 
-high : (c : tie.After-gate-line)
-    → getD (c .before .before .before .before .before .before .before .before .args .b .now) (c .before .before .before .before .before .before .before .before .args .m) 0 - 1 - firstGate (inputs (c .before .before .before .before .before .before .before .before .args .c .now)) < gates (c .before .before .before .before .before .before .before .before .args .c .now)
+high : (c : tie.After-gate-line) → getD (c .before .before .before .before .before .before .before .before .args .b .now) (c .before .before .before .before .before .before .before .before .args .m) 0 - 1 - firstGate (inputs (c .before .before .before .before .before .before .before .before .args .c .now)) < gates (c .before .before .before .before .before .before .before .before .args .c .now)
 high c = c .before .if2 .left
 
-shared-slice-read-first : tie.Need-shared-slice-read-first
-shared-slice-read-first c = search needs
+shared-slice-read-base : tie.Need-shared-slice-read-base
+shared-slice-read-base c = search needs
 
-add-first : tie.Need-add-first
-add-first c = search needs
+add-base : tie.Need-add-base
+add-base c = search needs
 
 mul-bound : tie.Need-mul-bound
 mul-bound c = search needs
@@ -33,12 +35,8 @@ element-copy-out-bound c = search needs
 
 returns : tie.Need-returns
 returns c =
-    let s = c .before .before .before .before .before in
-    let t = s .args .c .now in
-    let m = s .args .m in
-    let b = s .args .b .now in
-    let g = lineAt (s .args .t .now) (s .args .q) in
-    match-low t m g (s .args .swap) b (c .if1 .taken)
+    let a = c .before .before .before .before .before .args in
+    match-low (a .c .now) (a .m) (lineAt (a .t .now) (a .q)) (a .swap) (a .b .now) (c .if1 .taken)
 
 sub-k : tie.Need-sub-k
 sub-k c = search needs
@@ -51,12 +49,8 @@ shared-slice-read-if2 c = search needs
 
 returns-2 : tie.Need-returns-2
 returns-2 c =
-    let s = c .before .before .before .before .before .before .before in
-    let t = s .args .c .now in
-    let m = s .args .m in
-    let b = s .args .b .now in
-    let g = lineAt (s .args .t .now) (s .args .q) in
-    match-high t m g (s .args .swap) b (c .before .before .if1 .left) (c .if2 .taken)
+    let a = c .before .before .before .before .before .before .before .args in
+    match-high (a .c .now) (a .m) (lineAt (a .t .now) (a .q)) (a .swap) (a .b .now) (c .before .before .if1 .left) (c .if2 .taken)
 
 cast-gate-line : tie.Need-cast-gate-line
 cast-gate-line c = search needs
@@ -64,23 +58,25 @@ cast-gate-line c = search needs
 gate-line-requires : tie.Need-gate-line-requires
 gate-line-requires c κs = search needs
 
-mul-if3 : tie.Need-mul-if3
-mul-if3 c = search needs
+mul-same-kind : tie.Need-mul-same-kind
+mul-same-kind c = search needs
 
-shared-slice-read-if3 : tie.Need-shared-slice-read-if3
-shared-slice-read-if3 c = search needs
+shared-slice-read-same-kind : tie.Need-shared-slice-read-same-kind
+shared-slice-read-same-kind c = search needs
+
+same-kind-requires : tie.Need-same-kind-requires
+same-kind-requires c κs =
+    let s = c .before .before .before .before .before .before .before .before .before in
+    let t = s .args .c .now in
+    let k = getD (s .args .b .now) (s .args .m) 0 - 1 - firstGate (inputs t) in
+    rw (c .before .gate-line .ensures .0) (all-at hasGateKind (firstGate (inputs t)) (gateLines t) k _ (s .pre .0 .gate-kinds) (gate-next t k (high (c .before))))
 
 returns-3 : tie.Need-returns-3
 returns-3 c =
-    let s = c .before .before .before .before .before .before .before .before .before .before .before in
-    let t = s .args .c .now in
-    let m = s .args .m in
-    let b = s .args .b .now in
-    let g = lineAt (s .args .t .now) (s .args .q) in
+    let a = c .before .before .before .before .before .before .before .before .before .before .before .args in
     let l = c .before .before .before in
-    let r = l .gate-line .result in
-    let q = l .gate-line .ensures in
-    match-kind t m g (s .args .swap) b (low l) (getD b m 0 - 1 - firstGate (inputs t)) refl (high l) (r .kind) (r .left) (r .right) (q .0) (q .1 .0) (q .1 .1 .0) (ne-eqb _ _ (c .if3 .taken))
+    match-kind (a .c .now) (a .m) (lineAt (a .t .now) (a .q)) (a .swap) (a .b .now) (low l) (high l) (l .gate-line .result) (l .gate-line .ensures .0)
+    (sym (c .before .same-kind .ensures) ∙ not-true _ (c .if3 .taken))
 
 add-l : tie.Need-add-l
 add-l c = search needs
@@ -112,17 +108,13 @@ bind-operands-requires c κs = search needs
 returns-4 : tie.Need-returns-4
 unfolding bindOperands
 returns-4 c =
-    let s = c .before .before .before .before .before .before .before .before .before .before .before .before .before .before .before .before in
-    let t = s .args .c .now in
-    let m = s .args .m in
-    let b = s .args .b .now in
-    let g = lineAt (s .args .t .now) (s .args .q) in
+    let a = c .before .before .before .before .before .before .before .before .before .before .before .before .before .before .before .before .args in
     let l = c .before .before .before .before .before .before .before .before in
+    let g = lineAt (a .t .now) (a .q) in
     let r = l .gate-line .result in
-    let q = l .gate-line .ensures in
-    _∙_ {b = bindOperands g (r .right) (r .left) b}
+    _∙_ {b = bindOperands g (r .right) (r .left) (a .b .now)}
     (c .bind-operands .ensures)
-    (match-cross t m g (s .args .swap) b (low l) (getD b m 0 - 1 - firstGate (inputs t)) refl (high l) (r .kind) (r .left) (r .right) (q .0) (q .1 .0) (q .1 .1 .0) (eq-eqb _ _ (c .before .before .before .before .before .if3 .left)) (c .before .before .if4 .taken))
+    (match-cross (a .c .now) (a .m) g (a .swap) (a .b .now) (low l) (high l) r (l .gate-line .ensures .0) (sym (c .before .before .before .before .before .before .same-kind .ensures) ∙ not-false _ (c .before .before .before .before .before .if3 .left)) (c .before .before .if4 .taken))
 
 bind-operands-requires-2 : tie.Need-bind-operands-requires-2
 bind-operands-requires-2 c κs = search needs
@@ -130,24 +122,20 @@ bind-operands-requires-2 c κs = search needs
 returns-5 : tie.Need-returns-5
 unfolding bindOperands
 returns-5 c =
-    let s = c .before .before .before .before .before .before .before .before .before .before .before .before .before .before .before .before in
-    let t = s .args .c .now in
-    let m = s .args .m in
-    let b = s .args .b .now in
-    let g = lineAt (s .args .t .now) (s .args .q) in
+    let a = c .before .before .before .before .before .before .before .before .before .before .before .before .before .before .before .before .args in
     let l = c .before .before .before .before .before .before .before .before in
+    let g = lineAt (a .t .now) (a .q) in
     let r = l .gate-line .result in
-    let q = l .gate-line .ensures in
-    _∙_ {b = bindOperands g (r .left) (r .right) b}
+    _∙_ {b = bindOperands g (r .left) (r .right) (a .b .now)}
     (c .bind-operands2 .ensures)
-    (match-plain t m g (s .args .swap) b (low l) (getD b m 0 - 1 - firstGate (inputs t)) refl (high l) (r .kind) (r .left) (r .right) (q .0) (q .1 .0) (q .1 .1 .0) (eq-eqb _ _ (c .before .before .before .before .before .if3 .left)) (c .before .before .if4 .left))
+    (match-plain (a .c .now) (a .m) g (a .swap) (a .b .now) (low l) (high l) r (l .gate-line .ensures .0) (sym (c .before .before .before .before .before .before .same-kind .ensures) ∙ not-false _ (c .before .before .before .before .before .if3 .left)) (c .before .before .if4 .left))
 
 pub match-gate-spec : {M : Type 1} → statement M
 match-gate-spec =
     tie.close
     (tie.spec
-    shared-slice-read-first
-    add-first
+    shared-slice-read-base
+    add-base
     mul-bound
     element-copy-out-bound
     returns
@@ -157,8 +145,9 @@ match-gate-spec =
     returns-2
     cast-gate-line
     gate-line-requires
-    mul-if3
-    shared-slice-read-if3
+    mul-same-kind
+    shared-slice-read-same-kind
+    same-kind-requires
     returns-3
     add-l
     mul-l

@@ -1,3 +1,4 @@
+-- The loop steps from rule to rule as `placeFrom` does; the walk found each of them whole.
 use mathlib.Core.Path.{_≡_, sym, ap, _∙_}
 use Prim.Native.Nat.{_-_, _≤_}
 use native.Mathlib.Omega.{arith}

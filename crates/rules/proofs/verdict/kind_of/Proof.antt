@@ -1,3 +1,4 @@
+-- One case of `kindOf` to each way out; the range's upper bound is the largest circuit's last reference.
 use native.Mathlib.Omega.{arith}
 use borrow.Author.Needs.{needs}
 use Rattle.circuit.specs.Table.{decode}
@@ -6,11 +7,11 @@ use Rattle.rules.proofs.VerdictLaws.{kind-constant, kind-input, kind-ga
 use Rattle.rules.proofs.verdict.kind_of.Statement.{statement}
 use Rattle.rules.proofs.verdict.kind_of.Tie as tie
 
-shared-slice-read-first : tie.Need-shared-slice-read-first
-shared-slice-read-first c = search needs
+shared-slice-read-base : tie.Need-shared-slice-read-base
+shared-slice-read-base c = search needs
 
-add-first : tie.Need-add-first
-add-first c = search needs
+add-base : tie.Need-add-base
+add-base c = search needs
 
 returns : tie.Need-returns
 returns c =
@@ -52,8 +53,8 @@ pub kind-of-spec : {M : Type 1} → statement M
 kind-of-spec =
     tie.close
     (tie.spec
-    shared-slice-read-first
-    add-first
+    shared-slice-read-base
+    add-base
     returns
     shared-slice-read-if4
     add-if4

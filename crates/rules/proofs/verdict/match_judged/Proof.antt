@@ -1,14 +1,30 @@
-use mathlib.Core.Path.{ap, _∙_}
+-- By the laws of the verdict so far: none applies, by its limit, or the one that does is given.
+use mathlib.Core.Logic.{⊎-elim}
+use mathlib.Core.Path.{_≡_, ap, _∙_}
+use native.Mathlib.Omega.{arith}
 use lib.Dec.{eqb}
 use borrow.Author.Needs.{needs}
 use Rattle.lists.specs.First.{first}
 use Rattle.circuit.specs.Table.{decode}
-use Rattle.rules.specs.Verdict.{kindVerdict, matchAt}
+use Rattle.rules.specs.Verdict.{passes, kindOf, kindVerdict, matchAt}
 use Rattle.rules.specs.RuleTable.{ruleAt}
 use Rattle.rules.proofs.MatchLaws.{gate-below}
-use Rattle.rules.proofs.VerdictLaws.{at-gate, judged-at, judged-failing}
+use Rattle.rules.proofs.VerdictLaws.{so-far-small, at-gate, judged-at, judged-failing}
 use Rattle.rules.proofs.verdict.match_judged.Statement.{statement}
 use Rattle.rules.proofs.verdict.match_judged.Tie as tie
+
+so-far : (c : tie.After-site-verdict)
+    → let a = c .before .before .before .before .args in c .site-verdict .result ≡ first (eqb (a .judged) passes) (kindVerdict (kindOf (decode (a .c .now)) (a .gate))) (a .judged)
+so-far c =
+    let a = c .before .before .before .before .args in
+    c .site-verdict .ensures ∙ ap (λ k. first (eqb (a .judged) passes) (kindVerdict k) (a .judged)) (c .before .kind-of .ensures)
+
+none : (c : tie.At-match-came) → c .before .site-verdict .result ≡ passes
+none c =
+    let s = c .before .before .before .before .before in
+    let a = s .args in
+    let small = so-far-small (decode (a .c .now)) (ruleAt (a .t .now) (a .p)) (a .gate) (a .mask) (a .judged) (c .before .site-verdict .result) (so-far (c .before)) (s .pre .1 .1) in
+    ⊎-elim (λ w. omega (arith, w)) (λ w. omega (arith, w, small)) (c .match .came)
 
 kind-of-requires : tie.Need-kind-of-requires
 kind-of-requires c κs = search needs
@@ -16,31 +32,27 @@ kind-of-requires c κs = search needs
 site-verdict-requires : tie.Need-site-verdict-requires
 site-verdict-requires c κs = search needs
 
+failing-requires : tie.Need-failing-requires
+failing-requires c κs = search needs
+
 match-at-requires : tie.Need-match-at-requires
 match-at-requires c κs =
     let s = c .before .before .before .before .before in
     let a = s .args in
-    let e = c .before .site-verdict .ensures ∙ ap (λ k. first (eqb (a .judged) 0) (kindVerdict k) (a .judged)) (c .before .before .kind-of .ensures) in
-    (s .pre .0, (s .pre .1, gate-below (a .c .now) (a .gate) (at-gate (decode (a .c .now)) (ruleAt (a .t .now) (a .p)) (a .gate) (a .mask) (a .judged) (c .before .site-verdict .result) e (c .match .keys1))))
-
-failing-requires : tie.Need-failing-requires
-failing-requires c κs = search needs
+    (s .pre .0, (s .pre .1 .0, gate-below (a .c .now) (a .gate) (at-gate (decode (a .c .now)) (ruleAt (a .t .now) (a .p)) (a .gate) (a .mask) (a .judged) (c .before .site-verdict .result) (so-far (c .before)) (none c))))
 
 returns : tie.Need-returns
 returns c =
-    let s = c .before .before .before .before .before .before in
-    let a = s .args in
-    let e = c .before .before .site-verdict .ensures ∙ ap (λ k. first (eqb (a .judged) 0) (kindVerdict k) (a .judged)) (c .before .before .before .kind-of .ensures) in
-    _∙_ {b = matchAt (decode (a .c .now)) (ruleAt (a .t .now) (a .p)) (a .gate) (a .mask)}
-    (c .match-at .ensures)
-    (judged-at (decode (a .c .now)) (ruleAt (a .t .now) (a .p)) (a .gate) (a .mask) (a .judged) (c .before .before .site-verdict .result) e (c .before .match .keys1))
+    let a = c .before .before .before .before .before .before .before .args in
+    c .failing .ensures
+    ∙ judged-failing (decode (a .c .now)) (ruleAt (a .t .now) (a .p)) (a .gate) (a .mask) (a .judged) (c .before .before .before .site-verdict .result) (so-far (c .before .before .before)) (λ e. omega arith)
 
 returns-2 : tie.Need-returns-2
 returns-2 c =
-    let s = c .before .before .before .before .before .before in
-    let a = s .args in
-    let e = c .before .before .site-verdict .ensures ∙ ap (λ k. first (eqb (a .judged) 0) (kindVerdict k) (a .judged)) (c .before .before .before .kind-of .ensures) in
-    c .failing .ensures ∙ judged-failing (decode (a .c .now)) (ruleAt (a .t .now) (a .p)) (a .gate) (a .mask) (a .judged) (c .before .before .site-verdict .result) e (c .before .match .rest .1)
+    let a = c .before .before .before .before .before .before .args in
+    _∙_ {b = matchAt (decode (a .c .now)) (ruleAt (a .t .now) (a .p)) (a .gate) (a .mask)}
+    (c .match-at .ensures)
+    (judged-at (decode (a .c .now)) (ruleAt (a .t .now) (a .p)) (a .gate) (a .mask) (a .judged) (c .before .before .site-verdict .result) (so-far (c .before .before)) (none (c .before)))
 
 pub match-judged-spec : {M : Type 1} → statement M
 match-judged-spec =
@@ -48,7 +60,7 @@ match-judged-spec =
     (tie.spec
     kind-of-requires
     site-verdict-requires
-    match-at-requires
     failing-requires
+    match-at-requires
     returns
     returns-2)

@@ -1,31 +1,33 @@
-use mathlib.Core.Path.{_≡_}
+-- The invariant: the arrays and the buffer represent the allocation after the gates so far; a turn is `gate-ready` before and `gate-done` after it.
+use mathlib.Core.Path.{_≡_, sym}
 use Prim.Native.Nat.{_-_, _≤_}
 use native.Mathlib.Omega.{arith}
-use borrow.Author.Needs.{needs}
 use Rattle.circuit.specs.Table.{gates, decode}
 use Rattle.translator.specs.Allocator.{allocationAfter}
-use Rattle.translator.specs.Registers.{gateOf, Represents}
-use Rattle.translator.proofs.LineLaws.{gate-read}
+use Rattle.translator.specs.Registers.{Represents}
 use Rattle.translator.proofs.RepresentsLaws.{represents-same}
 use Rattle.translator.proofs.AllocatingLaws.{gates-none, gate-ready, gate-done, gates-all}
+use borrow.Author.Needs.{needs}
 use Rattle.translator.proofs.allocating.allocate_gates.Statement.{statement}
 use Rattle.translator.proofs.allocating.allocate_gates.Tie as tie
 
 abbrev Inv-loop : tie.InvT-loop
-Inv-loop t last owner₀ freed₀ place₀ buffer₀ first count counts₀ i₀ owner freed place buffer counts i =
-    (i ≤ gates t) × Represents owner freed place buffer (counts .free) (counts .fresh) (counts .written) buffer₀ (allocationAfter (decode t) i)
+Inv-loop t last owner₀ freed₀ place₀ buffer₀ from first count counts₀ i₀ owner freed place buffer counts i = (i ≤ gates t) × Represents owner freed place buffer counts buffer₀ (allocationAfter (decode t) i)
 
 abbrev μ-loop : tie.MeasureT-loop
-μ-loop t last owner₀ freed₀ place₀ buffer₀ first count counts₀ i₀ owner freed place buffer counts i = gates t - i
+μ-loop t last owner₀ freed₀ place₀ buffer₀ from first count counts₀ i₀ owner freed place buffer counts i = gates t - i
 
-shared-slice-read-first : tie.Need-shared-slice-read-first Inv-loop μ-loop
-shared-slice-read-first c = search needs
+gates-from-requires : tie.Need-gates-from-requires Inv-loop μ-loop
+gates-from-requires c κs = search needs
 
-add-first : tie.Need-add-first Inv-loop μ-loop
-add-first c = search needs
+shared-slice-read-first-gate : tie.Need-shared-slice-read-first-gate Inv-loop μ-loop
+shared-slice-read-first-gate c = search needs
 
-cast-first : tie.Need-cast-first Inv-loop μ-loop
-cast-first c = search needs
+add-first-gate : tie.Need-add-first-gate Inv-loop μ-loop
+add-first-gate c = search needs
+
+cast-first-gate : tie.Need-cast-first-gate Inv-loop μ-loop
+cast-first-gate c = search needs
 
 shared-slice-read-gates : tie.Need-shared-slice-read-gates Inv-loop μ-loop
 shared-slice-read-gates c = search needs
@@ -35,7 +37,7 @@ cast-gates c = search needs
 
 loop-holds : tie.Need-loop-holds Inv-loop μ-loop
 loop-holds c =
-    let s = c .before .before .before .before in
+    let s = c .before .before .before .before .before in
     let a = s .args in
     (omega arith, gates-none (decode (a .t .now)) (a .owner .now) (a .freed .now) (a .place .now) (a .buffer .now) (s .pre .1 .1 .1 .1 .0))
 
@@ -53,7 +55,7 @@ add-gate-turn c = search needs
 
 gate-turn-requires : tie.Need-gate-turn-requires Inv-loop μ-loop
 gate-turn-requires c κs =
-    let s = c .before .before .before .before .before .before .before .before .before .before .before in
+    let s = c .before .before .before .before .before .before .before .before .before .before .before .before in
     let a = s .args in
     let l = c .before .before .before .before .before .before .loop in
     let g = c .before .before .before .before .gate-line in
@@ -61,9 +63,8 @@ gate-turn-requires c κs =
     let b = l .inv .1 in (
       b .arrays,
       (
-        omega (arith, g .ensures .1 .1 .1, s .pre .0 .sized),
-        gate-ready (a .t .now) (a .last .now) (s .pre .0) (s .pre .1 .0) (s .pre .1 .1 .1 .0) (l .i) h (gateOf (g .result .kind) (g .result .left) (g .result .right))
-            (gate-read (a .t .now) (l .i) h (g .result .kind) (g .result .left) (g .result .right) (g .ensures .0) (g .ensures .1 .0) (g .ensures .1 .1 .0))
+        omega (arith, g .ensures .1, s .pre .0 .sized),
+        gate-ready (a .t .now) (a .last .now) (s .pre .0) (s .pre .1 .0) (s .pre .1 .1 .1 .0) (l .i) h (g .result) (sym (g .ensures .0))
             (s .pre .1 .1 .0) _ (b .allocation) _ (omega (arith, s .pre .1 .1 .1 .1 .1, b .kept .long)),
       ),
     )
@@ -76,17 +77,16 @@ loop-less c = search needs
 
 loop-again : tie.Need-loop-again Inv-loop μ-loop
 loop-again c =
-    let s = c .before .before .before .before .before .before .before .before .before .before .before .before .before .before in
+    let s = c .before .before .before .before .before .before .before .before .before .before .before .before .before .before .before in
     let a = s .args in
     let l = c .before .before .before .before .before .before .before .before .before .loop in
     let g = c .before .before .before .before .before .before .before .gate-line in
     let h = c .before .before .before .before .before .before .before .before .loop-test .taken in
     let r = c .before .before .gate-turn in (
       omega arith,
-      gate-done (a .t .now) (a .last .now) (s .pre .0) (s .pre .1 .0) (s .pre .1 .1 .1 .0) (l .i) h (gateOf (g .result .kind) (g .result .left) (g .result .right))
-          (gate-read (a .t .now) (l .i) h (g .result .kind) (g .result .left) (g .result .right) (g .ensures .0) (g .ensures .1 .0) (g .ensures .1 .1 .0))
-          (l .owner) (l .freed) (l .place) (l .buffer) (l .counts .free) (l .counts .fresh) (l .counts .written) (a .buffer .now)
-          (r .last .0) (r .last .1 .0) (r .last .1 .1 .0) (r .last .1 .1 .1 .0) (r .result .free) (r .result .fresh) (r .result .written)
+      gate-done (a .t .now) (a .last .now) (s .pre .0) (s .pre .1 .0) (s .pre .1 .1 .1 .0) (l .i) h (g .result) (sym (g .ensures .0))
+          (l .owner) (l .freed) (l .place) (l .buffer) (l .counts) (a .buffer .now)
+          (r .last .0) (r .last .1 .0) (r .last .1 .1 .0) (r .last .1 .1 .1 .0) (r .result)
           (l .inv .1) (r .ensures),
     )
 
@@ -95,30 +95,10 @@ same-length c = c .before .loop .inv .1 .kept .long
 
 returns : tie.Need-returns Inv-loop μ-loop
 returns c =
-    let t = c .before .before .before .before .before .before .args .t .now in
+    let t = c .before .before .before .before .before .before .before .args .t .now in
     let l = c .before .loop in
     let e : l .i ≡ gates t = omega (arith, l .inv .0, c .loop-test .left) in
     represents-same (gates-all t (l .i) e) (l .inv .1)
 
 pub allocate-gates-spec : {M : Type 1} → statement M
-allocate-gates-spec =
-    tie.close
-    (tie.spec
-    Inv-loop
-    μ-loop
-    shared-slice-read-first
-    add-first
-    cast-first
-    shared-slice-read-gates
-    cast-gates
-    loop-holds
-    gate-line-requires
-    cast-number
-    add-number
-    add-gate-turn
-    gate-turn-requires
-    add-i
-    loop-less
-    loop-again
-    same-length
-    returns)
+allocate-gates-spec = tie.close (tie.spec Inv-loop μ-loop gates-from-requires shared-slice-read-first-gate add-first-gate cast-first-gate shared-slice-read-gates cast-gates loop-holds gate-line-requires cast-number add-number add-gate-turn gate-turn-requires add-i loop-less loop-again same-length returns)

@@ -1,3 +1,4 @@
+-- By what is_held answers: nothing is to do (`ensure-there`), or the load is an assignment (`ensure-absent`).
 use mathlib.Core.Path.{sym, _∙_}
 use borrow.Author.Needs.{needs}
 use Rattle.translator.proofs.RepresentsLaws.{represents-same, ensure-there, ensure-absent, ensure-room}
@@ -11,7 +12,7 @@ returns : tie.Need-returns
 returns c =
     let s = c .before .before .before .before .before in
     let a = s .args in
-    ensure-there (a .owner .now) (a .freed .now) (a .place .now) (a .buffer .now) (a .counts .free) (a .counts .fresh) (a .counts .written) (s .pre .0) (a .v)
+    ensure-there (a .owner .now) (a .freed .now) (a .place .now) (a .buffer .now) (a .counts) (s .pre .0) (a .v)
     (sym (c .before .is-held .ensures) ∙ c .if1 .taken)
 
 cast-assign-register : tie.Need-cast-assign-register
@@ -22,7 +23,7 @@ assign-register-requires c κs =
     let s = c .before .before .before .before .before .before .before .before in
     let a = s .args in
     let no = sym (c .before .before .before .before .is-held .ensures) ∙ c .before .before .before .if1 .left in
-    let out = ensure-absent (a .owner .now) (a .freed .now) (a .place .now) (a .buffer .now) (a .counts .free) (a .counts .fresh) (a .counts .written) (s .pre .0) (a .v) no .0 in (
+    let out = ensure-absent (a .owner .now) (a .freed .now) (a .place .now) (a .buffer .now) (a .counts) (s .pre .0) (a .v) no .0 in (
       s .pre .0,
       (
         s .pre .1 .0,
@@ -30,7 +31,7 @@ assign-register-requires c κs =
           out,
           (
             s .pre .1 .1 .0 out,
-            ensure-room (a .owner .now) (a .freed .now) (a .place .now) (a .buffer .now) (a .counts .free) (a .counts .fresh) (a .counts .written) (s .pre .0) (a .v) no _ (s .pre .1 .1 .1),
+            ensure-room (a .owner .now) (a .freed .now) (a .place .now) (a .buffer .now) (a .counts) (s .pre .0) (a .v) no _ (s .pre .1 .1 .1),
           ),
         ),
       ),
@@ -45,7 +46,7 @@ returns-2 c =
     let a = s .args in
     let no = sym (c .before .before .before .before .before .before .before .is-held .ensures) ∙ c .before .before .before .before .before .before .if1 .left in
     represents-same
-    (sym (ensure-absent (a .owner .now) (a .freed .now) (a .place .now) (a .buffer .now) (a .counts .free) (a .counts .fresh) (a .counts .written) (s .pre .0) (a .v) no .1))
+    (sym (ensure-absent (a .owner .now) (a .freed .now) (a .place .now) (a .buffer .now) (a .counts) (s .pre .0) (a .v) no .1))
     (c .before .before .assign-register .ensures)
 
 pub ensure-loaded-spec : {M : Type 1} → statement M

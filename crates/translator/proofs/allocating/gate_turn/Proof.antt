@@ -1,13 +1,12 @@
+-- `Turnable` has what each callee asks; what they leave is joined by `represents-then`.
 use mathlib.Core.Path.{subst, sym, ap}
-use mathlib.Core.Bool.{Bool}
-use Prim.Native.Nat.{ℕ}
 use native.Mathlib.Omega.{arith}
-use lib.Dec.{ltb}
-use lib.ListN.{length, getD}
+use lib.ListN.{length}
 use borrow.Author.Needs.{needs}
+use Rattle.translator.specs.LastUse.{isUsedBehind}
 use Rattle.translator.specs.Allocation.{Allocation, operated}
 use Rattle.translator.specs.Allocator.{ensureLoaded, ensureOperands}
-use Rattle.translator.specs.Registers.{gateOf, allocationOf, Represents, Loadable, Operable}
+use Rattle.translator.specs.Registers.{allocationOf, Represents, Loadable, Operable}
 use Rattle.translator.proofs.RepresentsLaws.{code-written, represents-then, ensure-longer, operated-longer}
 use Rattle.translator.proofs.allocating.gate_turn.Statement.{statement}
 use Rattle.translator.proofs.allocating.gate_turn.Tie as tie
@@ -16,15 +15,15 @@ use Rattle.translator.proofs.allocating.gate_turn.Tie as tie
 both : (c : tie.After-ensure-loaded2)
     → (let a = c .before .before .before .before .before .before .before .before .before .before .before .before .before .before .before .args in
     let r = c .ensure-loaded2 in
-    Represents (r .last .0) (a .freed .now) (r .last .1 .1 .0) (r .last .1 .1 .1 .0) (r .result .free) (r .result .fresh) (r .result .written) (a .buffer .now)
-    (ensureOperands (gateOf (a .gate .kind) (a .gate .left) (a .gate .right)) (allocationOf (a .owner .now) (a .freed .now) (a .buffer .now) (a .counts .free) (a .counts .fresh) (a .counts .written))))
+    Represents (r .last .0) (a .freed .now) (r .last .1 .1 .0) (r .last .1 .1 .1 .0) (r .result) (a .buffer .now)
+    (ensureOperands (a .gate) (allocationOf (a .owner .now) (a .freed .now) (a .buffer .now) (a .counts))))
 both c =
     let a = c .before .before .before .before .before .before .before .before .before .before .before .before .before .before .before .args in
     let q = c .before .before .before .before .before .before .before .before .ensure-loaded in
     let r = c .ensure-loaded2 in
-    let s = ensureLoaded (a .gate .left) (allocationOf (a .owner .now) (a .freed .now) (a .buffer .now) (a .counts .free) (a .counts .fresh) (a .counts .written)) in
-    represents-then (q .last .0) (a .freed .now) (q .last .1 .1 .0) (q .last .1 .1 .1 .0) (q .result .free) (q .result .fresh) (q .result .written) (a .buffer .now) s
-    (r .last .0) (a .freed .now) (r .last .1 .1 .0) (r .last .1 .1 .1 .0) (r .result .free) (r .result .fresh) (r .result .written)
+    let s = ensureLoaded (a .gate .left) (allocationOf (a .owner .now) (a .freed .now) (a .buffer .now) (a .counts)) in
+    represents-then (q .last .0) (a .freed .now) (q .last .1 .1 .0) (q .last .1 .1 .1 .0) (q .result) (a .buffer .now) s
+    (r .last .0) (a .freed .now) (r .last .1 .1 .0) (r .last .1 .1 .1 .0) (r .result)
     (ensureLoaded (a .gate .right)) (q .ensures) (r .ensures) (ensure-longer (a .gate .right) s)
 
 cast-ensure-loaded : tie.Need-cast-ensure-loaded
@@ -35,7 +34,7 @@ ensure-loaded-requires c κs =
     let s = c .before .before .before .before .before .before in
     let a = s .args in
     let t = s .pre .1 .1 in
-    let x = ensureLoaded (a .gate .left) (allocationOf (a .owner .now) (a .freed .now) (a .buffer .now) (a .counts .free) (a .counts .fresh) (a .counts .written)) in
+    let x = ensureLoaded (a .gate .left) (allocationOf (a .owner .now) (a .freed .now) (a .buffer .now) (a .counts)) in
     (s .pre .0, (omega (arith, s .pre .1 .0), (t .left-next, omega (arith, t .fits, ensure-longer (a .gate .right) x))))
 
 cast-ensure-loaded-2 : tie.Need-cast-ensure-loaded-2
@@ -68,9 +67,9 @@ operate-requires c κs =
       (
         s .pre .1 .0,
         (
-          subst (λ (x : Allocation). Operable (λ u. ltb (a .number) (getD (a .last .now) u 0)) (a .v) (gateOf (a .gate .kind) (a .gate .left) (a .gate .right)) x)
+          subst (λ (x : Allocation). Operable (isUsedBehind (a .last .now) (a .number)) (a .v) (a .gate) x)
               (sym (b .allocation)) (t .operable),
-          omega (arith, t .fits, b .kept .long, code-written (r .last .0) (a .freed .now) (r .last .1 .1 .1 .0) (r .result .free) (r .result .fresh) (r .result .written) _ (b .allocation)),
+          omega (arith, t .fits, b .kept .long, code-written (r .last .0) (a .freed .now) (r .last .1 .1 .1 .0) (r .result) _ (b .allocation)),
         ),
       ),
     )
@@ -81,13 +80,13 @@ same-length c = search needs
 returns : tie.Need-returns
 returns c =
     let a = c .before .before .before .before .before .before .before .before .before .before .before .before .before .before .before .before .before .before .before .before .before .before .before .before .args in
-    let g = gateOf (a .gate .kind) (a .gate .left) (a .gate .right) in
-    let w : ℕ → Bool = λ u. ltb (a .number) (getD (a .last .now) u 0) in
+    let g = a .gate in
+    let w = isUsedBehind (a .last .now) (a .number) in
     let q = c .before .before .before .before .before .before .before .before .before .ensure-loaded2 in
     let r = c .before .before .operate in
-    let s = ensureOperands g (allocationOf (a .owner .now) (a .freed .now) (a .buffer .now) (a .counts .free) (a .counts .fresh) (a .counts .written)) in
-    represents-then (q .last .0) (a .freed .now) (q .last .1 .1 .0) (q .last .1 .1 .1 .0) (q .result .free) (q .result .fresh) (q .result .written) (a .buffer .now) s
-    (r .last .0) (r .last .1 .0) (r .last .1 .1 .0) (r .last .1 .1 .1 .0) (r .result .free) (r .result .fresh) (r .result .written)
+    let s = ensureOperands g (allocationOf (a .owner .now) (a .freed .now) (a .buffer .now) (a .counts)) in
+    represents-then (q .last .0) (a .freed .now) (q .last .1 .1 .0) (q .last .1 .1 .1 .0) (q .result) (a .buffer .now) s
+    (r .last .0) (r .last .1 .0) (r .last .1 .1 .0) (r .last .1 .1 .1 .0) (r .result)
     (operated w (a .v) g) (both (c .before .before .before .before .before .before .before .before .before)) (r .ensures) (operated-longer w (a .v) g s)
 
 pub gate-turn-spec : {M : Type 1} → statement M

@@ -1,23 +1,25 @@
+-- The invariant: the same with the outputs so far loaded; a turn is `output-ready` before and `output-done` after it.
 use mathlib.Core.Path.{_≡_, refl, sym, ap, _∙_}
 use Prim.Native.Nat.{_-_, _≤_}
 use native.Mathlib.Omega.{arith}
-use borrow.Author.Needs.{needs}
 use Rattle.circuit.specs.Table.{outputs, decode}
 use Rattle.circuit.proofs.TableLaws.{outputs-length}
 use Rattle.translator.specs.Allocator.{outputsLoaded}
 use Rattle.translator.specs.Registers.{Represents}
-use Rattle.translator.proofs.LineLaws.{output-read}
 use Rattle.translator.proofs.RepresentsLaws.{represents-same}
 use Rattle.translator.proofs.AllocatingLaws.{output-ready, output-fits, output-done}
+use borrow.Author.Needs.{needs}
 use Rattle.translator.proofs.allocating.load_outputs.Statement.{statement}
 use Rattle.translator.proofs.allocating.load_outputs.Tie as tie
 
 abbrev Inv-loop : tie.InvT-loop
-Inv-loop t owner₀ freed place₀ buffer₀ count counts₀ j₀ owner place buffer counts j =
-    (j ≤ outputs t) × Represents owner freed place buffer (counts .free) (counts .fresh) (counts .written) buffer₀ (outputsLoaded (decode t) j)
+Inv-loop t owner₀ freed place₀ buffer₀ from count counts₀ j₀ owner place buffer counts j = (j ≤ outputs t) × Represents owner freed place buffer counts buffer₀ (outputsLoaded (decode t) j)
 
 abbrev μ-loop : tie.MeasureT-loop
-μ-loop t owner₀ freed place₀ buffer₀ count counts₀ j₀ owner place buffer counts j = outputs t - j
+μ-loop t owner₀ freed place₀ buffer₀ from count counts₀ j₀ owner place buffer counts j = outputs t - j
+
+closings-from-requires : tie.Need-closings-from-requires Inv-loop μ-loop
+closings-from-requires c κs = search needs
 
 shared-slice-read-outputs : tie.Need-shared-slice-read-outputs Inv-loop μ-loop
 shared-slice-read-outputs c = search needs
@@ -27,7 +29,7 @@ cast-outputs c = search needs
 
 loop-holds : tie.Need-loop-holds Inv-loop μ-loop
 loop-holds c =
-    let s = c .before .before .before in
+    let s = c .before .before .before .before in
     (omega arith, record { arrays = s .pre .1 .1 .1 .0; allocation = s .pre .1 .1 .1 .1 .0; kept = record { beyond = refl; long = refl } })
 
 output-reference-requires : tie.Need-output-reference-requires Inv-loop μ-loop
@@ -35,12 +37,12 @@ output-reference-requires c κs = search needs
 
 ensure-loaded-requires : tie.Need-ensure-loaded-requires Inv-loop μ-loop
 ensure-loaded-requires c κs =
-    let s = c .before .before .before .before .before .before .before .before .before in
+    let s = c .before .before .before .before .before .before .before .before .before .before in
     let t = s .args .t .now in
     let l = c .before .before .before .before .before .loop in
     let o = c .before .before .before .output-reference in
     let h = c .before .before .before .before .loop-test .taken in
-    let e = output-read t (l .j) h (o .result) (o .ensures .0) in
+    let e = sym (o .ensures .0) in
     let b = l .inv .1 in (
       b .arrays,
       (
@@ -60,16 +62,16 @@ loop-less c = search needs
 
 loop-again : tie.Need-loop-again Inv-loop μ-loop
 loop-again c =
-    let s = c .before .before .before .before .before .before .before .before .before .before .before .before in
+    let s = c .before .before .before .before .before .before .before .before .before .before .before .before .before in
     let a = s .args in
     let l = c .before .before .before .before .before .before .before .before .loop in
     let o = c .before .before .before .before .before .before .output-reference in
     let h = c .before .before .before .before .before .before .before .loop-test .taken in
     let r = c .before .before .ensure-loaded in (
       omega arith,
-      output-done (a .t .now) (s .pre .0) (s .pre .1 .0) (l .j) h (o .result) (output-read (a .t .now) (l .j) h (o .result) (o .ensures .0))
-          (l .owner) (a .freed .now) (l .place) (l .buffer) (l .counts .free) (l .counts .fresh) (l .counts .written) (a .buffer .now)
-          (r .last .0) (r .last .1 .1 .0) (r .last .1 .1 .1 .0) (r .result .free) (r .result .fresh) (r .result .written) (l .inv .1) (r .ensures),
+      output-done (a .t .now) (s .pre .0) (s .pre .1 .0) (l .j) h (o .result) (sym (o .ensures .0))
+          (l .owner) (a .freed .now) (l .place) (l .buffer) (l .counts) (a .buffer .now)
+          (r .last .0) (r .last .1 .1 .0) (r .last .1 .1 .1 .0) (r .result) (l .inv .1) (r .ensures),
     )
 
 same-length : tie.Need-same-length Inv-loop μ-loop
@@ -77,24 +79,10 @@ same-length c = c .before .loop .inv .1 .kept .long
 
 returns : tie.Need-returns Inv-loop μ-loop
 returns c =
-    let t = c .before .before .before .before .before .args .t .now in
+    let t = c .before .before .before .before .before .before .args .t .now in
     let l = c .before .loop in
     let e : l .j ≡ outputs t = omega (arith, l .inv .0, c .loop-test .left) in
     represents-same (ap (outputsLoaded (decode t)) (e ∙ sym (outputs-length t))) (l .inv .1)
 
 pub load-outputs-spec : {M : Type 1} → statement M
-load-outputs-spec =
-    tie.close
-    (tie.spec
-    Inv-loop
-    μ-loop
-    shared-slice-read-outputs
-    cast-outputs
-    loop-holds
-    output-reference-requires
-    ensure-loaded-requires
-    add-j
-    loop-less
-    loop-again
-    same-length
-    returns)
+load-outputs-spec = tie.close (tie.spec Inv-loop μ-loop closings-from-requires shared-slice-read-outputs cast-outputs loop-holds output-reference-requires ensure-loaded-requires add-j loop-less loop-again same-length returns)

@@ -1,12 +1,13 @@
+-- `Operable` has what each callee asks; two releases make `releaseOperands` (`released`), and the result takes a register (`operation-done`).
 use mathlib.Core.Path.{_≡_, ap, _∙_}
 use Prim.Native.Nat.{suc}
 use native.Mathlib.Omega.{arith}
-use lib.Dec.{ltb}
-use lib.ListN.{length, getD}
+use lib.ListN.{length}
 use borrow.Author.Needs.{needs}
 use Rattle.circuit.specs.Path.{isAmong}
+use Rattle.translator.specs.LastUse.{isUsedBehind}
 use Rattle.translator.specs.Allocation.{nextRegister, releaseOperands}
-use Rattle.translator.specs.Registers.{gateOf, allocationOf}
+use Rattle.translator.specs.Registers.{allocationOf}
 use Rattle.translator.proofs.ArrayLaws.{stack-length}
 use Rattle.translator.proofs.RepresentsLaws.{releases, releases-written, operation-done}
 use Rattle.translator.proofs.allocating.operate.Statement.{statement}
@@ -16,12 +17,12 @@ use Rattle.translator.proofs.allocating.operate.Tie as tie
 released : (c : tie.After-release2)
     → (let a = c .before .before .before .before .before .before .before .before .before .before .before .before .before .before .before .args in
     let r = c .release2 in
-    allocationOf (r .last .0) (r .last .1 .0) (a .buffer .now) (r .result .free) (r .result .fresh) (r .result .written)
-    ≡ releaseOperands (λ u. ltb (a .number) (getD (a .last .now) u 0)) (gateOf (a .gate .kind) (a .gate .left) (a .gate .right))
-    (allocationOf (a .owner .now) (a .freed .now) (a .buffer .now) (a .counts .free) (a .counts .fresh) (a .counts .written)))
+    allocationOf (r .last .0) (r .last .1 .0) (a .buffer .now) (r .result)
+    ≡ releaseOperands (isUsedBehind (a .last .now) (a .number)) (a .gate)
+    (allocationOf (a .owner .now) (a .freed .now) (a .buffer .now) (a .counts)))
 released c =
     let a = c .before .before .before .before .before .before .before .before .before .before .before .before .before .before .before .args in
-    releases (λ u. ltb (a .number) (getD (a .last .now) u 0)) (gateOf (a .gate .kind) (a .gate .left) (a .gate .right)) _ _ _ (c .before .before .before .before .before .release .ensures .1 (a .buffer .now))
+    releases (isUsedBehind (a .last .now) (a .number)) (a .gate) _ _ _ (c .before .before .before .before .before .release .ensures .1 (a .buffer .now))
     (c .release2 .ensures .1 (a .buffer .now))
 
 cast-left : tie.Need-cast-left
@@ -95,8 +96,8 @@ assign-register-requires c κs =
             omega (
               arith,
               s .pre .1 .1 .1,
-              releases-written (λ u. ltb (a .number) (getD (a .last .now) u 0)) (a .owner .now) (a .freed .now) (a .place .now) (a .buffer .now) (a .counts .free) (a .counts .fresh) (a .counts .written) (s .pre .0) (a .v)
-                  (gateOf (a .gate .kind) (a .gate .left) (a .gate .right)) (r .last .0) (r .last .1 .0) (r .result .free) (r .result .fresh) (r .result .written) q,
+              releases-written (isUsedBehind (a .last .now) (a .number)) (a .owner .now) (a .freed .now) (a .place .now) (a .buffer .now) (a .counts) (s .pre .0) (a .v)
+                  (a .gate) (r .last .0) (r .last .1 .0) (r .result) q,
             ),
           ),
         ),
@@ -113,9 +114,9 @@ returns c =
     let o = s .pre .1 .1 .0 in
     let r = c .before .before .before .before .before .before .before .release2 in
     let b = c .before .before .assign-register in
-    operation-done (λ u. ltb (a .number) (getD (a .last .now) u 0)) (a .owner .now) (a .freed .now) (a .place .now) (a .buffer .now) (a .counts .free) (a .counts .fresh) (a .counts .written) (s .pre .0) (a .v)
-    (gateOf (a .gate .kind) (a .gate .left) (a .gate .right)) (r .last .0) (r .last .1 .0) (r .result .free) (r .result .fresh) (r .result .written) (released (c .before .before .before .before .before .before .before))
-    (o .left-there) (o .right-there) (b .last .0) (b .last .1 .1 .0) (b .last .1 .1 .1 .0) (b .result .free) (b .result .fresh) (b .result .written) (b .ensures)
+    operation-done (isUsedBehind (a .last .now) (a .number)) (a .owner .now) (a .freed .now) (a .place .now) (a .buffer .now) (a .counts) (s .pre .0) (a .v)
+    (a .gate) (r .last .0) (r .last .1 .0) (r .result) (released (c .before .before .before .before .before .before .before))
+    (o .left-there) (o .right-there) (b .last .0) (b .last .1 .1 .0) (b .last .1 .1 .1 .0) (b .result) (b .ensures)
 
 pub operate-spec : {M : Type 1} → statement M
 operate-spec =

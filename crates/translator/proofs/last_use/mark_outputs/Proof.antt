@@ -1,19 +1,23 @@
+-- The loop runs backward; the invariant: the last uses and the count of different references from output i on (`UsesFrom` in LastUseLaws).
 use Prim.Native.Nat.{_+_, _-_, _≤_}
 use mathlib.Core.Path.{_≡_}
 use native.Mathlib.Omega.{arith}
 use lib.ListN.{length, length-set}
-use borrow.Author.Needs.{needs}
+use Rattle.circuit.specs.Circuit.{maxReferences}
 use Rattle.circuit.specs.Table.{outputs}
-use Rattle.translator.specs.Registers.{maxReferences}
 use Rattle.translator.proofs.LastUseLaws.{UsesFrom, uses-none, uses-old, uses-new, uses-all}
+use borrow.Author.Needs.{needs}
 use Rattle.translator.proofs.last_use.mark_outputs.Statement.{statement}
 use Rattle.translator.proofs.last_use.mark_outputs.Tie as tie
 
 abbrev Inv-loop : tie.InvT-loop
-Inv-loop t last₀ number distinct₀ i₀ last distinct i = (i ≤ outputs t) × (length last ≡ maxReferences) × (distinct + i ≤ outputs t) × UsesFrom t last distinct i
+Inv-loop t last₀ from number distinct₀ i₀ last distinct i = (i ≤ outputs t) × (length last ≡ maxReferences) × (distinct + i ≤ outputs t) × UsesFrom t last distinct i
 
 abbrev μ-loop : tie.MeasureT-loop
-μ-loop t last₀ number distinct₀ i₀ last distinct i = i
+μ-loop t last₀ from number distinct₀ i₀ last distinct i = i
+
+closings-from-requires : tie.Need-closings-from-requires Inv-loop μ-loop
+closings-from-requires c κs = search needs
 
 shared-slice-read-number : tie.Need-shared-slice-read-number Inv-loop μ-loop
 shared-slice-read-number c = search needs
@@ -29,7 +33,7 @@ cast-i c = search needs
 
 loop-holds : tie.Need-loop-holds Inv-loop μ-loop
 loop-holds c =
-    let s = c .before .before .before in
+    let s = c .before .before .before .before in
     (search needs, s .pre .1 .0, search needs, uses-none (s .args .t .now) (s .args .last .now) (s .pre .1 .1))
 
 sub-i : tie.Need-sub-i Inv-loop μ-loop
@@ -59,7 +63,7 @@ loop-less c = search needs
 loop-again : tie.Need-loop-again Inv-loop μ-loop
 loop-again c =
     let l = c .before .before .before .before .loop in
-    let t = c .before .before .before .before .before .before .before .before .args .t .now in (
+    let t = c .before .before .before .before .before .before .before .before .before .args .t .now in (
       search needs,
       simp length-set (l .inv .1),
       search needs,
@@ -72,7 +76,7 @@ loop-less-2 c = search needs
 loop-again-2 : tie.Need-loop-again-2 Inv-loop μ-loop
 loop-again-2 c =
     let l = c .before .before .before .before .loop in
-    let t = c .before .before .before .before .before .before .before .before .args .t .now in (
+    let t = c .before .before .before .before .before .before .before .before .before .args .t .now in (
       search needs,
       l .inv .1,
       search needs,
@@ -82,29 +86,8 @@ loop-again-2 c =
 returns : tie.Need-returns Inv-loop μ-loop
 returns c =
     let l = c .before .loop in
-    let all = uses-all (c .before .before .before .before .before .args .t .now) (l .last) (l .distinct) (l .i) (omega arith) (l .inv .3) in
+    let all = uses-all (c .before .before .before .before .before .before .args .t .now) (l .last) (l .distinct) (l .i) (omega arith) (l .inv .3) in
     (all .0, (all .1, l .inv .1))
 
 pub mark-outputs-spec : {M : Type 1} → statement M
-mark-outputs-spec =
-    tie.close
-    (tie.spec
-    Inv-loop
-    μ-loop
-    shared-slice-read-number
-    add-number
-    shared-slice-read-i
-    cast-i
-    loop-holds
-    sub-i
-    output-reference-requires
-    mul-if1
-    element-copy-out-if1
-    mul-last
-    element-write-last
-    add-distinct
-    loop-less
-    loop-again
-    loop-less-2
-    loop-again-2
-    returns)
+mark-outputs-spec = tie.close (tie.spec Inv-loop μ-loop closings-from-requires shared-slice-read-number add-number shared-slice-read-i cast-i loop-holds sub-i output-reference-requires mul-if1 element-copy-out-if1 mul-last element-write-last add-distinct loop-less loop-again loop-less-2 loop-again-2 returns)

@@ -1,3 +1,4 @@
+-- The four cases of two bools.
 use mathlib.Core.Path.{_≡_, refl}
 use mathlib.Core.Bool.{Bool, true, false}
 use Prim.Native.Nat.{_+_, _<_}

@@ -1,11 +1,11 @@
+-- That the table of last uses decides what it is the last to use is `departures-read`.
 use mathlib.Core.Path.{sym, ap, _∙_}
 use native.Mathlib.Omega.{arith}
-use borrow.Author.Needs.{needs}
 use Rattle.circuit.specs.Table.{decode}
 use Rattle.circuit.proofs.TableLaws.{gates-length}
 use Rattle.translator.specs.Pressure.{departures}
-use Rattle.translator.proofs.LineLaws.{gate-read}
 use Rattle.translator.proofs.CountingLaws.{departures-read}
+use borrow.Author.Needs.{needs}
 use Rattle.translator.proofs.pressure.departures.Statement.{statement}
 use Rattle.translator.proofs.pressure.departures.Tie as tie
 
@@ -45,21 +45,8 @@ returns c =
     let g = c .before .before .before .before .before .before .gate-line in
     let t = s .args .t .now in
     let i = s .args .i in
-    let read = gate-read t i (s .pre .1 .0) _ _ _ (g .ensures .0) (g .ensures .1 .0) (g .ensures .1 .1 .0) in
-    c .count-true .ensures ∙ departures-read (decode t) (s .args .last .now) (s .pre .1 .1) i (omega (arith, gates-length t)) _ ∙ ap (departures (decode t) i) (sym read)
+    let read = sym (g .ensures .0) in
+    c .count-true .ensures ∙ departures-read (decode t) (s .args .last .now) (s .pre .1 .1 .1) i (omega (arith, gates-length t)) _ ∙ ap (departures (decode t) i) (sym read)
 
 pub departures-spec : {M : Type 1} → statement M
-departures-spec =
-    tie.close
-    (tie.spec
-    gate-line-requires
-    cast-number
-    add-number
-    cast-left
-    mul-left
-    element-copy-out-left
-    cast-right
-    mul-right
-    element-copy-out-right
-    count-true-requires
-    returns)
+departures-spec = tie.close (tie.spec gate-line-requires cast-number add-number cast-left mul-left element-copy-out-left cast-right mul-right element-copy-out-right count-true-requires returns)

@@ -1,19 +1,23 @@
+-- The invariant: held and most are those of `pressureAfter`, and what is marked as used is what the gates so far use (CountingLaws).
 use mathlib.Core.Path.{_≡_}
 use Prim.Native.Nat.{_-_, _≤_}
 use native.Mathlib.Omega.{arith}
 use lib.ListN.{length}
-use borrow.Author.Needs.{needs}
+use Rattle.circuit.specs.Circuit.{maxReferences}
 use Rattle.circuit.specs.Table.{decode}
-use Rattle.translator.specs.Registers.{maxReferences}
 use Rattle.translator.proofs.CountingLaws.{UsedTo, used-none, HeldTo, held-none, arrivals-fit, departures-fit, held-more, held-all}
+use borrow.Author.Needs.{needs}
 use Rattle.translator.proofs.pressure.most_held.Statement.{statement}
 use Rattle.translator.proofs.pressure.most_held.Tie as tie
 
 abbrev Inv-loop : tie.InvT-loop
-Inv-loop t last used₀ gates held₀ most₀ i₀ used held most i = (i ≤ gates) × (length used ≡ maxReferences) × UsedTo (decode t) used i × HeldTo t held most i
+Inv-loop t last used₀ from gates held₀ most₀ i₀ used held most i = (i ≤ gates) × (length used ≡ maxReferences) × UsedTo (decode t) used i × HeldTo t held most i
 
 abbrev μ-loop : tie.MeasureT-loop
-μ-loop t last used₀ gates held₀ most₀ i₀ used held most i = gates - i
+μ-loop t last used₀ from gates held₀ most₀ i₀ used held most i = gates - i
+
+gates-from-requires : tie.Need-gates-from-requires Inv-loop μ-loop
+gates-from-requires c κs = search needs
 
 shared-slice-read-gates : tie.Need-shared-slice-read-gates Inv-loop μ-loop
 shared-slice-read-gates c = search needs
@@ -23,16 +27,16 @@ cast-gates c = search needs
 
 loop-holds : tie.Need-loop-holds Inv-loop μ-loop
 loop-holds c =
-    let s = c .before .before in
+    let s = c .before .before .before in
     let t = s .args .t .now in
     (search needs, s .pre .1 .1 .1 .0, used-none (decode t) (s .args .used .now) (s .pre .1 .1 .1 .1), held-none t)
 
 arrivals-requires : tie.Need-arrivals-requires Inv-loop μ-loop
-arrivals-requires c κs = search needs
+arrivals-requires c κs = (c .before .before .before .before .before .before .pre .0, (c .before .before .before .before .gates-from .ensures, (c .before .loop-test .taken, (c .before .before .loop .inv .1, c .before .before .loop .inv .2))))
 
 add-before : tie.Need-add-before Inv-loop μ-loop
 add-before c =
-    let s = c .before .before .before .before .before .before in
+    let s = c .before .before .before .before .before .before .before in
     let l = c .before .before .before .loop in
     omega (
       arith,
@@ -44,7 +48,7 @@ departures-requires c κs = search needs
 
 sub-held : tie.Need-sub-held Inv-loop μ-loop
 sub-held c =
-    let s = c .before .before .before .before .before .before .before in
+    let s = c .before .before .before .before .before .before .before .before in
     let l = c .before .before .before .before .loop in
     omega (
       arith,
@@ -53,7 +57,7 @@ sub-held c =
 
 add-held : tie.Need-add-held Inv-loop μ-loop
 add-held c =
-    let s = c .before .before .before .before .before .before .before in
+    let s = c .before .before .before .before .before .before .before .before in
     let l = c .before .before .before .before .loop in
     omega (
       arith,
@@ -76,7 +80,7 @@ loop-again : tie.Need-loop-again Inv-loop μ-loop
 loop-again c =
     let a = c .before .before .before .arrivals in
     let l = c .before .before .before .before .before .before .loop in
-    let t = c .before .before .before .before .before .before .before .before .before .args .t .now in (
+    let t = c .before .before .before .before .before .before .before .before .before .before .args .t .now in (
       search needs,
       a .ensures .1 .1,
       a .ensures .1 .0,
@@ -86,25 +90,7 @@ loop-again c =
 returns : tie.Need-returns Inv-loop μ-loop
 returns c =
     let l = c .before .loop in
-    held-all (c .before .before .before .before .args .t .now) (l .held) (l .most) (l .i) (omega arith) (l .inv .3)
+    held-all (c .before .before .before .before .before .args .t .now) (l .held) (l .most) (l .i) (omega arith) (l .inv .3)
 
 pub most-held-spec : {M : Type 1} → statement M
-most-held-spec =
-    tie.close
-    (tie.spec
-    Inv-loop
-    μ-loop
-    shared-slice-read-gates
-    cast-gates
-    loop-holds
-    arrivals-requires
-    add-before
-    departures-requires
-    sub-held
-    add-held
-    larger-requires
-    larger-requires-2
-    add-i
-    loop-less
-    loop-again
-    returns)
+most-held-spec = tie.close (tie.spec Inv-loop μ-loop gates-from-requires shared-slice-read-gates cast-gates loop-holds arrivals-requires add-before departures-requires sub-held add-held larger-requires larger-requires-2 add-i loop-less loop-again returns)

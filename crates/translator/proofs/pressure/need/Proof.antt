@@ -1,8 +1,9 @@
+-- Nothing is marked in a new array; `need-read` puts the two callees' promises together.
 use Prim.Native.Nat.{ℕ}
 use lib.ListN.{length-replicate}
 use borrow.Author.Needs.{needs}
+use Rattle.circuit.specs.Circuit.{maxReferences}
 use Rattle.circuit.proofs.PassLaws.{zeros-at}
-use Rattle.translator.specs.Registers.{maxReferences}
 use Rattle.translator.proofs.CountingLaws.{need-read}
 use Rattle.translator.proofs.pressure.need.Statement.{statement}
 use Rattle.translator.proofs.pressure.need.Tie as tie

@@ -1,14 +1,14 @@
-use mathlib.Core.Path.{_≡_, ap, _∙_}
+-- What is counted is the need (PressureLaws); it decides the last test, and the program is that of the trimmed circuit (CallLaws).
+use mathlib.Core.Path.{_≡_, _∙_}
 use Prim.Native.Nat.{ℕ}
 use native.Mathlib.Omega.{arith}
 use lib.ListN.{length-replicate}
 use borrow.Author.Needs.{needs}
-use Rattle.lines.specs.Refusal.{leaving}
+use Rattle.circuit.specs.Circuit.{maxReferences}
 use Rattle.circuit.specs.Table.{decode}
 use Rattle.circuit.proofs.PassLaws.{zeros-at}
 use Rattle.circuit.proofs.ValidLaws.{limited-decode}
 use Rattle.translator.specs.Need.{need}
-use Rattle.translator.specs.TranslateCall.{paperValues}
 use Rattle.translator.proofs.TrimmedLaws.{trimmed-fixed}
 use Rattle.translator.proofs.ShapeLaws.{program-limit}
 use Rattle.translator.proofs.PressureLaws.{linear-need}
@@ -23,27 +23,27 @@ needed c =
     c .need .ensures ∙ linear-need (decode (s .args .t .now)) (trimmed-fixed (s .args .t .now) (s .pre .0) (s .pre .1 .0))
 
 last-uses-requires : tie.Need-last-uses-requires
-last-uses-requires c κs = (c .before .before .before .pre .0, (length-replicate {A = ℕ} 2562 0, zeros-at 2562))
+last-uses-requires c κs = (c .before .before .before .pre .0, (length-replicate {A = ℕ} maxReferences 0, zeros-at maxReferences))
 
 need-requires : tie.Need-need-requires
 need-requires c κs = search needs
 
-not-translated-requires : tie.Need-not-translated-requires
-not-translated-requires c κs = search needs
+refuse-requires : tie.Need-refuse-requires
+refuse-requires c κs = search needs
 
 returns : tie.Need-returns
 returns c =
     let a = c .before .before .before .before .before .before .before .before .args in
-    ap (λ r. leaving (paperValues r) (a .buffer .now)) (c .not-translated .ensures)
-    ∙ needs-more (decode (a .t .now)) (a .limit) (a .buffer .now) (c .before .before .need .result) (needed (c .before .before)) (c .before .if1 .taken)
+    needs-more (decode (a .t .now)) (a .limit) (a .buffer .now) (c .before .before .need .result) (needed (c .before .before)) (c .before .if1 .taken)
+    (c .refuse .result) (c .refuse .ensures)
 
 write-program-requires : tie.Need-write-program-requires
 write-program-requires c κs =
     let s = c .before .before .before .before .before .before .before .before .before in
     (s .pre .0, (s .pre .1 .0, (omega (arith, s .pre .1 .1 .0, c .before .before .if1 .left, needed (c .before .before .before)), (c .before .before .before .before .before .last-uses .ensures .1 .0, omega (arith, s .pre .1 .1 .1)))))
 
-cast-t14 : tie.Need-cast-t14
-cast-t14 c =
+cast-t15 : tie.Need-cast-t15
+cast-t15 c =
     let s = c .before .before .before .before .before .before .before .before .before .before .before .before in
     let t = s .args .t .now in
     omega (arith, c .before .before .write-program .ensures .0, program-limit (decode t) (trimmed-fixed t (s .pre .0) (s .pre .1 .0)) (limited-decode t (s .pre .0 .sized)))
@@ -63,9 +63,9 @@ translate-trimmed-spec =
     (tie.spec
     last-uses-requires
     need-requires
-    not-translated-requires
+    refuse-requires
     returns
     write-program-requires
-    cast-t14
+    cast-t15
     same-length
     returns-2)

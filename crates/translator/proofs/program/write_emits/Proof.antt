@@ -1,22 +1,24 @@
+-- The invariant: as many emits as outputs so far stand behind the start, and the buffer beyond is as it was (`Emitted` in ProgramLaws).
 use mathlib.Core.Path.{_≡_, sym}
 use Prim.Native.Nat.{_-_, _≤_}
 use native.Mathlib.Omega.{arith}
 use lib.ListN.{getD}
-use borrow.Author.Needs.{needs}
 use Rattle.circuit.specs.Table.{outputs, decode}
 use Rattle.circuit.proofs.TableLaws.{outputs-length}
 use Rattle.translator.specs.Machine.{emitting}
-use Rattle.translator.proofs.LineLaws.{output-read}
 use Rattle.translator.proofs.ProgramLaws.{Emitted, emitted-none, emitted-more, emitted-all}
+use borrow.Author.Needs.{needs}
 use Rattle.translator.proofs.program.write_emits.Statement.{statement}
 use Rattle.translator.proofs.program.write_emits.Tie as tie
 
 abbrev Inv-loop : tie.InvT-loop
-Inv-loop t place buffer₀ start count j₀ buffer j =
-    (j ≤ outputs t) × Emitted (λ v. emitting (getD place v 0)) (decode t .outputs) start buffer₀ buffer j
+Inv-loop t place buffer₀ start from count j₀ buffer j = (j ≤ outputs t) × Emitted (λ v. emitting (getD place v 0)) (decode t .outputs) start buffer₀ buffer j
 
 abbrev μ-loop : tie.MeasureT-loop
-μ-loop t place buffer₀ start count j₀ buffer j = outputs t - j
+μ-loop t place buffer₀ start from count j₀ buffer j = outputs t - j
+
+closings-from-requires : tie.Need-closings-from-requires Inv-loop μ-loop
+closings-from-requires c κs = search needs
 
 shared-slice-read-count : tie.Need-shared-slice-read-count Inv-loop μ-loop
 shared-slice-read-count c = search needs
@@ -26,7 +28,7 @@ cast-count c = search needs
 
 loop-holds : tie.Need-loop-holds Inv-loop μ-loop
 loop-holds c =
-    let a = c .before .before .before .args in
+    let a = c .before .before .before .before .args in
     (omega arith, emitted-none (λ v. emitting (getD (a .place .now) v 0)) (decode (a .t .now) .outputs) (a .start) (a .buffer .now))
 
 output-reference-requires : tie.Need-output-reference-requires Inv-loop μ-loop
@@ -42,7 +44,7 @@ element-copy-out-write-instruction : tie.Need-element-copy-out-write-instruction
 element-copy-out-write-instruction c = search needs
 
 write-instruction-requires : tie.Need-write-instruction-requires Inv-loop μ-loop
-write-instruction-requires c κs = omega (arith, c .before .before .before .before .before .before .before .before .pre .1, c .before .before .before .before .loop .inv .1 .beyond .long, c .before .before .before .loop-test .taken)
+write-instruction-requires c κs = omega (arith, c .before .before .before .before .before .before .before .before .before .pre .1, c .before .before .before .before .loop .inv .1 .beyond .long, c .before .before .before .loop-test .taken)
 
 add-j : tie.Need-add-j Inv-loop μ-loop
 add-j c = search needs
@@ -52,7 +54,7 @@ loop-less c = search needs
 
 loop-again : tie.Need-loop-again Inv-loop μ-loop
 loop-again c =
-    let s = c .before .before .before .before .before .before .before .before .before .before .before in
+    let s = c .before .before .before .before .before .before .before .before .before .before .before .before in
     let a = s .args in
     let l = c .before .before .before .before .before .before .before .loop in
     let o = c .before .before .before .before .before .output-reference in
@@ -60,7 +62,7 @@ loop-again c =
     let w = c .before .before .write-instruction in (
       omega arith,
       emitted-more (λ v. emitting (getD (a .place .now) v 0)) (decode (a .t .now) .outputs) (a .start) (a .buffer .now) (l .buffer) (l .j) (l .inv .1)
-          (omega (arith, h, outputs-length (a .t .now))) (o .result) (output-read (a .t .now) (l .j) h (o .result) (o .ensures .0))
+          (omega (arith, h, outputs-length (a .t .now))) (o .result) (sym (o .ensures .0))
           (omega (arith, s .pre .1, l .inv .1 .beyond .long, h)) (w .last .0) (w .ensures),
     )
 
@@ -72,7 +74,7 @@ same-length c = c .before .loop .inv .1 .beyond .long
 
 returns : tie.Need-returns Inv-loop μ-loop
 returns c =
-    let a = c .before .before .before .before .before .args in
+    let a = c .before .before .before .before .before .before .args in
     let t = a .t .now in
     let l = c .before .loop in
     let e : l .j ≡ outputs t = omega (arith, l .inv .0, c .loop-test .left) in
@@ -80,22 +82,4 @@ returns c =
     (sym (outputs-length t))
 
 pub write-emits-spec : {M : Type 1} → statement M
-write-emits-spec =
-    tie.close
-    (tie.spec
-    Inv-loop
-    μ-loop
-    shared-slice-read-count
-    cast-count
-    loop-holds
-    output-reference-requires
-    add-write-instruction
-    mul-write-instruction
-    element-copy-out-write-instruction
-    write-instruction-requires
-    add-j
-    loop-less
-    loop-again
-    add-result
-    same-length
-    returns)
+write-emits-spec = tie.close (tie.spec Inv-loop μ-loop closings-from-requires shared-slice-read-count cast-count loop-holds output-reference-requires add-write-instruction mul-write-instruction element-copy-out-write-instruction write-instruction-requires add-j loop-less loop-again add-result same-length returns)

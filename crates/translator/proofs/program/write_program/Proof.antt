@@ -1,11 +1,14 @@
+-- Three parts one after the other, each of which finds what the one before it promises; `program-written` reads the program off the last buffer.
 use Prim.Native.Nat.{ℕ}
 use native.Mathlib.Omega.{arith}
 use lib.ListN.{length-replicate}
 use borrow.Author.Needs.{needs}
+use Rattle.circuit.specs.Circuit.{maxReferences}
 use Rattle.circuit.specs.Table.{decode}
 use Rattle.circuit.proofs.TableLaws.{outputs-length}
 use Rattle.circuit.proofs.PassLaws.{zeros-at}
 use Rattle.circuit.proofs.ValidLaws.{limited-decode}
+use Rattle.translator.specs.Machine.{maxRegisters}
 use Rattle.translator.proofs.TrimmedLaws.{trimmed-fixed}
 use Rattle.translator.proofs.ArrayLaws.{arrays-none}
 use Rattle.translator.proofs.ProgramLaws.{emits-fit, program-written}
@@ -15,7 +18,7 @@ use Rattle.translator.proofs.program.write_program.Tie as tie
 allocate-gates-requires : tie.Need-allocate-gates-requires
 allocate-gates-requires c κs =
     let s = c .before .before .before .before .before .before in
-    let k = arrays-none _ _ _ (length-replicate {A = ℕ} 1024 0) (length-replicate {A = ℕ} 1024 0) (length-replicate {A = ℕ} 2562 0) (zeros-at 1024) (zeros-at 2562) in
+    let k = arrays-none _ _ _ (length-replicate {A = ℕ} maxRegisters 0) (length-replicate {A = ℕ} maxRegisters 0) (length-replicate {A = ℕ} maxReferences 0) (zeros-at maxRegisters) (zeros-at maxReferences) in
     (s .pre .0, (s .pre .1 .0, (s .pre .1 .1 .0, (s .pre .1 .1 .1 .0, (k, s .pre .1 .1 .1 .1)))))
 
 load-outputs-requires : tie.Need-load-outputs-requires
@@ -38,7 +41,7 @@ write-emits-requires c κs =
         r .ensures .kept .long,
         outputs-length t,
         emits-fit (decode t) (trimmed-fixed t (s .pre .0) (s .pre .1 .0)) (r .last .1 .0) (g .last .1 .1 .1 .0) (r .last .1 .1 .1 .0) (r .last .1 .1 .1 .1 .0)
-            (r .result .free) (r .result .fresh) (r .result .written) (g .last .1 .1 .1 .1 .1 .0) (r .ensures) (limited-decode t (s .pre .0 .sized)),
+            (r .result) (g .last .1 .1 .1 .1 .1 .0) (r .ensures) (limited-decode t (s .pre .0 .sized)),
       ),
     )
 
@@ -53,8 +56,8 @@ returns c =
     let r = c .before .before .before .before .before .before .before .load-outputs in
     let w = c .before .before .write-emits in
     program-written (decode t) (trimmed-fixed t (s .pre .0) (s .pre .1 .0)) (r .last .1 .0) (g .last .1 .1 .1 .0) (r .last .1 .1 .1 .0) (r .last .1 .1 .1 .1 .0)
-    (r .result .free) (r .result .fresh) (r .result .written) (g .last .1 .1 .1 .1 .1 .0) (r .ensures)
-    (g .last .1 .1 .0) (g .last .1 .1 .1 .0) (g .last .1 .1 .1 .1 .0) (g .result .free) (g .result .fresh) (g .result .written) (s .args .buffer .now) (g .ensures)
+    (r .result) (g .last .1 .1 .1 .1 .1 .0) (r .ensures)
+    (g .last .1 .1 .0) (g .last .1 .1 .1 .0) (g .last .1 .1 .1 .1 .0) (g .result) (s .args .buffer .now) (g .ensures)
     (w .last .1 .1 .0) (w .result) (w .ensures .0) (w .ensures .1) (s .pre .1 .1 .1 .1) (limited-decode t (s .pre .0 .sized))
 
 pub write-program-spec : {M : Type 1} → statement M

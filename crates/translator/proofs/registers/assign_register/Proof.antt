@@ -1,3 +1,4 @@
+-- The four callees and stores are one assignment, by `register-assigned`, as the next register is below the limit.
 use Prim.Native.Nat.{_<_}
 use native.Mathlib.Omega.{arith}
 use borrow.Author.Needs.{needs}
@@ -59,9 +60,9 @@ returns : tie.Need-returns
 returns c =
     let s = c .before .before .before .before .before .before .before .before in
     let a = s .args in
-    register-assigned (a .owner .now) (a .freed .now) (a .place .now) (a .buffer .now) (a .counts .free) (a .counts .fresh) (a .counts .written) (s .pre .0) (a .v)
+    register-assigned (a .owner .now) (a .freed .now) (a .place .now) (a .buffer .now) (a .counts) (s .pre .0) (a .v)
     (λ d. operating (a .opcode) d (a .a) (a .b)) (s .pre .1 .0) (s .pre .1 .1 .0) (s .pre .1 .1 .1 .1) (c .before .before .before .before .write-instruction .last .0)
-    (c .before .before .before .before .before .before .next-register .result) (c .before .before .before .before .before .before .next-register .ensures) (inside (c .before .before .before .before .before .before)) (c .before .before .before .before .write-instruction .ensures) _ _ _ (c .counts-after .ensures)
+    (c .before .before .before .before .before .before .next-register .result) (c .before .before .before .before .before .before .next-register .ensures) (inside (c .before .before .before .before .before .before)) (c .before .before .before .before .write-instruction .ensures) _ (c .counts-after .ensures)
 
 pub assign-register-spec : {M : Type 1} → statement M
 assign-register-spec =

@@ -1,3 +1,4 @@
+-- What is compared is the promise, but for `v + 1` and `suc v`.
 use native.Mathlib.Numerals.{add-one}
 use borrow.Author.Needs.{needs}
 use Rattle.translator.proofs.registers.is_held.Statement.{statement}

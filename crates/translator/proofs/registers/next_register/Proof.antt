@@ -1,3 +1,4 @@
+-- The two cases of the test are the two of the promise.
 use mathlib.Core.Path.{sym}
 use borrow.Author.Tests.{eq-eqb, ne-eqb}
 use borrow.Author.Needs.{needs}

@@ -1,3 +1,4 @@
+-- One law a case: a value that is kept changes nothing, and else the arrays say the release (`release-freed`).
 use native.Mathlib.Omega.{arith}
 use borrow.Author.Needs.{needs}
 use Rattle.translator.proofs.RepresentsLaws.{release-none, release-freed}
@@ -36,8 +37,8 @@ returns-2 c =
     let s = c .before .before in
     let a = s .args in
     let e = c .before .if1 .left in
-    let z = release-freed (a .owner .now) (a .freed .now) (a .place .now) (a .counts .free) (a .counts .fresh) (s .pre .0) (a .keep) (a .v) e (s .pre .1 .1 .0) (s .pre .1 .1 .1 e) in
-    (z .0, λ p. z .1 p (a .counts .written))
+    let z = release-freed (a .owner .now) (a .freed .now) (a .place .now) (a .counts) (s .pre .0) (a .keep) (a .v) e (s .pre .1 .1 .0) (s .pre .1 .1 .1 e) in
+    (z .0, z .1)
 
 pub release-spec : {M : Type 1} → statement M
 release-spec =

@@ -1,3 +1,4 @@
+-- Four stores one after the other are one `sets`.
 use native.Mathlib.Omega.{arith}
 use lib.ListN.{length-set}
 use borrow.Author.Needs.{needs}

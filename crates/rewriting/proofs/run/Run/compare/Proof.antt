@@ -1,3 +1,4 @@
+-- The test is `isLower` itself, so each way out is a case of `compared`.
 use borrow.Author.Needs.{needs}
 use Rattle.rewriting.specs.Pair.{isLower}
 use Rattle.rewriting.proofs.RunStateLaws.{compared-lower, compared-other}
