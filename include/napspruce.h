@@ -2,7 +2,7 @@
  *
  * A slice is an aligned pointer and a count of the elements behind it: bytes of a text, numbers of a table. A count of 0 may come with any pointer,
  * NULL too. A lent buffer, which is one that is not const, must overlap no other slice of the same call. Nothing is asked of the contents: each
- * call tests what it relies on, takes no memory but the stack, and keeps nothing between calls.
+ * call tests what it relies on, takes no memory but the stack (180 KB for a listing, the largest), and keeps nothing between calls.
  *
  * A text is lines of 19 bytes: three numbers from 0 to 999,999, each right-justified in six columns with blanks before it and no leading zero, and
  * byte 10. A table holds the same numbers, three a line. README.md, Files, says what the lines of circuits, rules and sites are.
@@ -85,17 +85,18 @@ uint64_t napspruce_measure(const uint32_t *circuit, size_t circuit_len);
  * Refusals: 1, 4 to 8 of the rules. */
 uint64_t napspruce_judge(const uint32_t *rules, size_t rules_len, uint32_t rule);
 
-/* Matches a rule at a gate of the trimmed circuit, with the operands of left gate i crossed where bit i of the mask is 1. Gives 1 if there
- * is no such rule, 2 if it is not sound, 3 if the reference is not a gate, 4 if there is no match or the mask has a bit beyond the left gates,
- * else 0.
+/* Matches a rule at a gate of the trimmed circuit, with the operands of left gate i, the first being 0, crossed where bit i of the mask, worth
+ * 2 to the power i, is 1. Gives 1 if there is no such rule, 2 if it is not sound, 3 if the reference is not a gate, 4 if there is no match or
+ * the mask has a bit beyond the left gates, else 0.
  * Refusals: 1 of the circuit, 1 of the rules; 4 to 7 of the circuit; 4 to 8 of the rules. */
 uint64_t napspruce_match(const uint32_t *circuit, size_t circuit_len, const uint32_t *rules, size_t rules_len,
                          uint32_t rule, uint32_t gate, uint32_t mask);
 
 /* Trims the circuit and rewrites it at the sites in order. Its table is then in `result`, with the numbers of its gates and outputs in
- * result[1] and result[2]; and a byte a site in `verdicts`: 1 to 4 as above, 5 too many gates, 6 the pair (D, N) would not be lower, 0
- * kept. `result` and `work` have NAPSPRUCE_TABLE numbers at least, `verdicts` NAPSPRUCE_VERDICTS bytes; what `work` holds
- * after a success is not told. Gives the pair of the circuit handed over, the pair of the one handed back, and how many sites were kept.
+ * result[1] and result[2]; and a byte a site in `verdicts`: 1 to 4 as above, 5 more than 2,048 gates with the right gates in the place of the
+ * site's, before what is dead then is trimmed, 6 the pair (D, N) would not be lower, 0 kept. `result` and `work` have NAPSPRUCE_TABLE numbers
+ * at least, `verdicts` NAPSPRUCE_VERDICTS bytes; what `work` holds after a success is not told. Gives the pair of the circuit handed over, the
+ * pair of the one handed back, and how many sites were kept.
  * Refusals: 1 of the circuit, the rules, the sites; 2; 4 to 7 of the circuit; 4 to 8 of the rules; 4 and 5 of the sites. */
 uint64_t napspruce_rewrite(const uint32_t *circuit, size_t circuit_len, const uint32_t *rules, size_t rules_len,
                            const uint32_t *sites, size_t sites_len, uint32_t *result, size_t result_len,
