@@ -17,7 +17,7 @@ use Rattle.circuit.specs.Circuit.{Gate, Circuit, andKind, firstGate, ref
 use Rattle.circuit.specs.Fold.{gateValue, foldGates}
 use Rattle.circuit.specs.Evaluation.{bitOp, bitOf, startBits, bits, evaluate}
 use Rattle.circuit.specs.Depth.{plusAnd, depthOp, startDepths, depths, depth, largest, circuitDepth}
-use Rattle.circuit.specs.ReverseDepth.{markOutputs, raise, raiseOperands, raiseGates, reverseDepths, reverseDepth}
+use Rattle.circuit.specs.ReverseDepth.{markOutputs, raise, raiseOperands, raiseGates, reverseDepths}
 use Rattle.circuit.specs.Critical.{isCritical, criticalCount}
 use Rattle.circuit.specs.Theorems.{EvaluationGivesBits}
 use Rattle.circuit.proofs.EachLaws.{count-le}
@@ -107,15 +107,6 @@ module _ (c : Circuit) where
   pub circuit-depth-le : circuitDepth c ≤ length (c .gates)
   unfolding circuitDepth
   circuit-depth-le = largest-bound _ (length (c .gates)) (mapped (λ x. x ≤ length (c .gates)) (depth c) 0 (omega arith) depth-le (c .outputs))
-
-  pub reverse-le : (v : ℕ) → reverseDepth c v ≤ length (c .gates) + 1
-  unfolding reverseDepths
-  reverse-le v =
-      omega (
-        arith,
-        raise-bound (firstGate (c .inputs)) (c .gates) (markOutputs (c .outputs) (replicate (references c) 0)) 1
-            (mark-bound (c .outputs) (replicate (references c) 0) (λ k. omega (arith, zeros-at (references c) k))) v,
-      )
 
   pub critical-count-le : criticalCount c ≤ length (c .gates)
   unfolding criticalCount

@@ -2,8 +2,9 @@
 use mathlib.Core.Path.{_≡_, sym, ap, _∙_}
 use mathlib.Core.List.{List, _∷_, map}
 use Prim.Native.Nat.{ℕ, _+_, _≤_, _<_, max}
+use native.Mathlib.Nat.{add-zero}
 use native.Mathlib.Omega.{arith}
-use lib.ListN.{length, take, drop, getD, set, replicate, length-replicate}
+use lib.ListN.{length, take, drop, getD, set, length-replicate}
 use Rattle.lists.proofs.Maps.{take-read}
 use Rattle.lines.specs.Calls.{over}
 use Rattle.circuit.specs.Circuit.{Gate, maxDepth, firstGate, noGate}
@@ -15,7 +16,7 @@ use Rattle.circuit.proofs.TableLaws.{gate-next, gates-length, output-ne
 use Rattle.circuit.proofs.RefusalLaws.{left-below, right-below, output-below}
 use Rattle.circuit.proofs.BoundLaws.{depth-le, depths-length}
 use Rattle.circuit.proofs.LoopLaws.{value-read, largest-more, largest-end}
-use Rattle.lists.proofs.Each.{FilledOver, filled-over-none, filled-over-more, filled-over-read, filled-over-all}
+use Rattle.lists.proofs.Each.{each-begin, FilledOver, filled-over-from, filled-over-more, filled-over-read, filled-over-all}
 use Rattle.circuit.proofs.BufferLaws.{over-take, over-over}
 
 -- the depths of the first i gates are there, behind those of the constants and inputs
@@ -23,8 +24,11 @@ abbrev pub DepthsTo : (t d₀ d : List ℕ) (i : ℕ) → Type 0
 DepthsTo t d₀ d i = FilledOver (gateValue depthOp 0) (gateLines t) (startDepths (inputs t)) (firstGate (inputs t)) d₀ d i
 
 module _ (t d₀ : List ℕ) where
-  pub depths-none : take (firstGate (inputs t)) d₀ ≡ startDepths (inputs t) → DepthsTo t d₀ d₀ 0
-  depths-none e = filled-over-none (gateValue depthOp 0) (gateLines t) (startDepths (inputs t)) (firstGate (inputs t)) d₀ e
+  -- those of the first i gates are there from the beginning
+  pub depths-resumed : (i : ℕ) → take (firstGate (inputs t) + i) d₀ ≡ take (firstGate (inputs t) + i) (depths (decode t)) → DepthsTo t d₀ d₀ i
+  unfolding depths
+  depths-resumed i e =
+      filled-over-from (gateValue depthOp 0) (gateLines t) (startDepths (inputs t)) (firstGate (inputs t)) d₀ i (length-replicate {A = ℕ} (firstGate (inputs t)) 0) e
 
   module _ (w : WellFormed t) (fits : refs t ≤ length d₀) (d : List ℕ) (i : ℕ) (f : DepthsTo t d₀ d i) where
     pub depth-limit : i ≤ gates t → (k : ℕ) → k < firstGate (inputs t) + i → getD d k 0 ≤ maxDepth
@@ -53,11 +57,21 @@ module _ (t d₀ : List ℕ) where
         filled-over-all (gateValue depthOp 0) (gateLines t) (startDepths (inputs t)) (firstGate (inputs t)) d₀ d i f (omega arith) (omega (arith, gates-length t))
 
 -- zeros first, then the depths over them
-pub depths-over : (t d₀ d d′ : List ℕ) → d ≡ over (replicate (firstGate (inputs t)) 0) d₀ → d′ ≡ over (depths (decode t)) d → d′ ≡ over (depths (decode t)) d₀
-depths-over t d₀ d d′ e f =
-    f ∙ ap (over (depths (decode t))) e
-    ∙ over-over (depths (decode t)) (replicate (firstGate (inputs t)) 0) d₀
-    (omega (arith, depths-length (decode t), refs-decode t, length-replicate {A = ℕ} (firstGate (inputs t)) 0))
+module _ (t d₀ d : List ℕ) (e : d ≡ over (startDepths (inputs t)) d₀) where
+  zeros : length (startDepths (inputs t)) ≡ firstGate (inputs t)
+  zeros = length-replicate {A = ℕ} (firstGate (inputs t)) 0
+
+  pub depths-none : take (firstGate (inputs t) + 0) d ≡ take (firstGate (inputs t) + 0) (depths (decode t))
+  unfolding depths
+  depths-none =
+      rw add-zero
+      (ap (take (firstGate (inputs t))) e ∙ over-take (startDepths (inputs t)) d₀ (firstGate (inputs t)) zeros
+      ∙ sym (each-begin (gateValue depthOp 0) (gateLines t) (startDepths (inputs t)) (firstGate (inputs t)) zeros))
+
+  pub depths-over : (d′ : List ℕ) → d′ ≡ over (depths (decode t)) d → d′ ≡ over (depths (decode t)) d₀
+  depths-over d′ f =
+      f ∙ ap (over (depths (decode t))) e
+      ∙ over-over (depths (decode t)) (startDepths (inputs t)) d₀ (omega (arith, depths-length (decode t), refs-decode t, zeros))
 
 -- what a reader of the filled buffer knows
 pub depths-front : (t d₀ d : List ℕ) → d ≡ over (depths (decode t)) d₀ → take (refs t) d ≡ depths (decode t)

@@ -1,8 +1,8 @@
 -- Laws of `allGates`, `countGates` and `EachGate`: loops that test or count gates, and what holds of each. Assumes nothing.
-use mathlib.Core.Path.{_≡_, refl, sym, _∙_}
-use mathlib.Core.Bool.{Bool, true, false}
+use mathlib.Core.Path.{_≡_, refl, sym, ap₂, _∙_}
+use mathlib.Core.Bool.{Bool, true, false, _&&_, and-true, and-assoc}
 use mathlib.Core.List.{List, [], _∷_}
-use Prim.Native.Nat.{ℕ, zero, suc, _+_, _≤_, _<_}
+use Prim.Native.Nat.{ℕ, zero, suc, _+_, _*_, _≤_, _<_}
 use native.Mathlib.Nat.{add-zero, add-suc, suc-add, not-suc-le-zero}
 use native.Mathlib.Omega.{arith}
 use lib.ListN.{length, drop, getD, drop-of-length-le}
@@ -10,51 +10,46 @@ use Rattle.lists.specs.First.{first}
 use Rattle.lists.proofs.Tests.{both, left-of, right-of}
 use Rattle.circuit.specs.Circuit.{Gate, noGate}
 use Rattle.circuit.specs.Each.{allGates, countGates, EachGate}
+use Rattle.circuit.specs.Table.{lineAt, linesOf}
+use Rattle.circuit.proofs.TableLaws.{lines-length, step-from}
 
--- A loop that tests the gates in order and has come to gate i: it passes, it fails, or there is none.
+-- A loop that tests all of n lines, from number q on, and has come to line i: b is what they have left of a.
+module _ (test : ℕ → Gate → Bool) (m q n : ℕ) (t : List ℕ) (a : Bool) where
+  abbrev pub Tests : (i : ℕ) (b : Bool) → Type 0
+  Tests i b = (b && allGates test (m + i) (drop i (linesOf n (drop q t)))) ≡ (a && allGates test m (linesOf n (drop q t)))
+
+  pub tests-none : Tests 0 a
+  tests-none = rw add-zero
+
+  module _ (i : ℕ) (b : Bool) (inv : Tests i b) where
+    pub tests-more : (d : Bool) → i < n → d ≡ (b && test (m + i) (lineAt t (q + 3 * i))) → Tests (i + 1) d
+    unfolding allGates
+    tests-more d h e =
+        let s : m + (i + 1) ≡ suc (m + i) = omega arith in
+        rw (s, e) (and-assoc b (test (m + i) (lineAt t (q + 3 * i))) _ ∙ rw (step-from q n t i h) at inv)
+
+    pub tests-end : n ≤ i → b ≡ (a && allGates test m (linesOf n (drop q t)))
+    unfolding allGates
+    tests-end h =
+        let k : length (linesOf n (drop q t)) ≤ i = rw lines-length h in
+        sym (and-true b) ∙ rw (drop-of-length-le (linesOf n (drop q t)) k) at inv
+
+-- A loop that counts from the last gate to the first, has counted those from i on, and now comes to the one before.
 module _ (test : ℕ → Gate → Bool) (n : ℕ) (gs : List Gate) where
-  pub all-none : allGates test (n + 0) (drop 0 gs) ≡ allGates test n gs
-  all-none = rw add-zero
+  pub count-none : (i : ℕ) → length gs ≤ i → 0 ≡ countGates test (n + i) (drop i gs)
+  unfolding countGates
+  count-none i h = rw (drop-of-length-le gs h)
 
-  module _ (i : ℕ) (inv : allGates test (n + i) (drop i gs) ≡ allGates test n gs) where
-    pub all-pass : (g : Gate) → drop i gs ≡ g ∷ drop (i + 1) gs → test (n + i) g ≡ true → allGates test (n + (i + 1)) (drop (i + 1) gs) ≡ allGates test n gs
-    unfolding allGates
-    all-pass g e ok =
-        let s : n + (i + 1) ≡ suc (n + i) = omega arith in
-        rw s (rw (e, ok) at inv)
-
-    pub all-fail : (g : Gate) → drop i gs ≡ g ∷ drop (i + 1) gs → test (n + i) g ≡ false → false ≡ allGates test n gs
-    unfolding allGates
-    all-fail g e bad = rw (e, bad) at inv
-
-    pub all-end : length gs ≤ i → true ≡ allGates test n gs
-    unfolding allGates
-    all-end h = rw (drop-of-length-le gs h) at inv
-
--- A loop that counts, k so far.
-module _ (test : ℕ → Gate → Bool) (n : ℕ) (gs : List Gate) where
-  pub count-none : 0 + countGates test (n + 0) (drop 0 gs) ≡ countGates test n gs
-  count-none = rw (add-zero n) (omega arith)
-
-  module _ (i k : ℕ) (inv : k + countGates test (n + i) (drop i gs) ≡ countGates test n gs) where
-    pub count-pass : (g : Gate) → drop i gs ≡ g ∷ drop (i + 1) gs → test (n + i) g ≡ true
-        → k + 1 + countGates test (n + (i + 1)) (drop (i + 1) gs) ≡ countGates test n gs
-    unfolding countGates
-    count-pass g e ok =
-        let s : n + (i + 1) ≡ suc (n + i) = omega arith in
-        let x : k + (1 + countGates test (suc (n + i)) (drop (i + 1) gs)) ≡ countGates test n gs = rw (e, ok) at inv in
-        rw s (omega arith)
-
-    pub count-skip : (g : Gate) → drop i gs ≡ g ∷ drop (i + 1) gs → test (n + i) g ≡ false
-        → k + countGates test (n + (i + 1)) (drop (i + 1) gs) ≡ countGates test n gs
-    unfolding countGates
-    count-skip g e bad =
-        let s : n + (i + 1) ≡ suc (n + i) = omega arith in
-        rw s (rw (e, bad) at inv)
-
-    pub count-end : length gs ≤ i → k ≡ countGates test n gs
-    unfolding countGates
-    count-end h = sym (add-zero k) ∙ rw (drop-of-length-le gs h) at inv
+  pub count-more : (i j k : ℕ) (g : Gate) → i ≡ j + 1 → drop j gs ≡ g ∷ drop (j + 1) gs → k ≡ countGates test (n + i) (drop i gs)
+      → k + first (test (n + j) g) 1 0 ≡ countGates test (n + j) (drop j gs)
+  unfolding countGates
+  count-more i j k g q e h =
+      let s : n + i ≡ suc (n + j) = omega arith in
+      rw e (go (test (n + j) g) (countGates test (suc (n + j)) (drop (j + 1) gs)) (h ∙ ap₂ (λ m l. countGates test m (drop l gs)) s q))
+    where
+      go : (b : Bool) (r : ℕ) → k ≡ r → k + first b 1 0 ≡ first b (1 + r) r
+      go true r e = omega arith
+      go false r e = omega arith
 
 pub count-le : (test : ℕ → Gate → Bool) (n : ℕ) (gs : List Gate) → countGates test n gs ≤ length gs
 unfolding countGates

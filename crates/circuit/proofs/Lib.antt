@@ -17,6 +17,7 @@ pub mod BackwardLaws
 pub mod DepthLaws
 pub mod CriticalLaws
 pub mod TrimmingLaws
+pub mod KeptDepthLaws
 pub mod MeasureLaws
 pub mod TrimTheorems
 pub mod FrontLaws

@@ -10,38 +10,27 @@ use lib.Seq.{getD-take}
 use borrow.Author.Tests.{le-ltb}
 use Rattle.lists.proofs.Maps.{take-read}
 use Rattle.circuit.specs.Circuit.{Gate, closingKind, firstGate}
-use Rattle.circuit.specs.Table.{inputs, gates, outputs, refs, gateLines, closingLine, decode, encodeLines, encode}
-use Rattle.circuit.specs.WellFormed.{WellFormed}
+use Rattle.circuit.specs.Table.{inputs, gates, outputs, refs, closingLine, decode, encodeLines, encode}
 use Rattle.circuit.specs.Fold.{gateValue}
 use Rattle.circuit.specs.Depth.{largest}
-use Rattle.circuit.specs.ReverseDepth.{reverseDepths}
-use Rattle.circuit.specs.Trim.{renameGate, rank, ranks, keepGates, isKept, trimmedGates, trimmedOutputs, trim, trimOf}
-use Rattle.circuit.proofs.TableLaws.{outputs-length, refs-decode}
-use Rattle.circuit.proofs.ValidLaws.{valid-decode}
+use Rattle.circuit.specs.ReverseDepth.{reverseDepths, isLive}
+use Rattle.circuit.specs.Trim.{renameGate, rank, keepGates, isKept, trimmedGates, trimmedOutputs, trim, trimOf}
+use Rattle.circuit.proofs.TableLaws.{outputs-length}
 use Rattle.circuit.proofs.EncodingLaws.{encode-cons}
-use Rattle.circuit.proofs.RankLaws.{ranks-at, keep-count, keep-kept, keep-gone, keep-end}
-use Rattle.circuit.proofs.TrimLaws.{rank-first}
+use Rattle.circuit.proofs.RankLaws.{keep-kept, keep-gone, keep-end}
 
 -- a gate's value from an array whose first k places are known
 pub value-read : {A : Type 0} (op : ℕ → A → A → A) (z : A) (g : Gate) (k : ℕ) (d : List A) → g .left < k → g .right < k
     → op (g .kind) (getD d (g .left) z) (getD d (g .right) z) ≡ gateValue op z g (take k d)
 value-read op z g k d l r = ap₂ (op (g .kind)) (sym (getD-take k d (g .left) z l)) (sym (getD-take k d (g .right) z r))
 
--- whether a reference is kept, by an array u of the reverse depths
-module _ (t u : List ℕ) (e : take (refs t) u ≡ reverseDepths (decode t)) where
-  pub kept-read : (v : ℕ) → v < refs t → (ltb v (firstGate (inputs t)) || ltb 0 (getD u v 0)) ≡ isKept (decode t) v
-  kept-read v h = ap (λ x. ltb v (firstGate (inputs t)) || ltb 0 x) (take-read (refs t) u (reverseDepths (decode t)) v 0 e h)
-
-  -- of gate i
-  pub gate-kept-read : (i : ℕ) → i < gates t → ltb 0 (getD u (firstGate (inputs t) + i) 0) ≡ isKept (decode t) (firstGate (inputs t) + i)
-  gate-kept-read i h =
-      let v = firstGate (inputs t) + i in
-      let low : ltb v (firstGate (inputs t)) ≡ false = le-ltb v (firstGate (inputs t)) (omega arith) in
-      sym (ap (λ b. b || ltb 0 (getD u v 0)) low) ∙ kept-read v (omega arith)
-
--- a new number, by an array of them
-pub rank-read : (kept : ℕ → Bool) (n : ℕ) (d : List ℕ) (v : ℕ) → take n d ≡ ranks kept n → v < n → getD d v 0 ≡ rank kept v
-rank-read kept n d v e h = take-read n d (ranks kept n) v 0 e h ∙ ranks-at kept n v h
+-- whether gate i is kept, by an array u of the reverse depths
+pub kept-read : (t u : List ℕ) → take (refs t) u ≡ reverseDepths (decode t) → (i : ℕ) → i < gates t
+    → ltb 0 (getD u (firstGate (inputs t) + i) 0) ≡ isKept (decode t) (firstGate (inputs t) + i)
+kept-read t u e i h =
+    let v = firstGate (inputs t) + i in
+    let low : ltb v (firstGate (inputs t)) ≡ false = le-ltb v (firstGate (inputs t)) (omega arith) in
+    ap (ltb 0) (take-read (refs t) u (reverseDepths (decode t)) v 0 e (omega arith)) ∙ sym (ap (λ b. b || isLive (decode t) v) low)
 
 -- a loop for the largest of f o, which has come to element i of os, with x the largest so far
 module _ (f : ℕ → ℕ) (os : List ℕ) where
@@ -70,13 +59,6 @@ pub trim-lines : (t : List ℕ)
     ++ encodeLines (map closingLine (trimmedOutputs (decode t))))
 unfolding encode trim
 trim-lines t = rw (length-map (decode t .outputs) (rank (isKept (decode t))), outputs-length t)
-
--- how many gates are kept, by the rank behind the last reference
-pub trim-count : (t : List ℕ) → WellFormed t
-    → rank (isKept (decode t)) (refs t) ≡ firstGate (inputs t) + length (trimmedGates (decode t))
-trim-count t w =
-    let c = decode t in
-    omega (arith, keep-count (isKept c) (firstGate (inputs t)) (gateLines t), rank-first c (valid-decode t w), ap (rank (isKept c)) (refs-decode t))
 
 module _ (kept : ℕ → Bool) (n : ℕ) (gs : List Gate) (i : ℕ) (g : Gate) (e : drop i gs ≡ g ∷ drop (i + 1) gs) where
   pub append-kept : kept (n + i) ≡ true

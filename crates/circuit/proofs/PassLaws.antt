@@ -4,15 +4,17 @@ use mathlib.Core.Logic.{_≢_}
 use mathlib.Core.Bool.{Bool, true, false}
 use mathlib.Core.List.{List, [], _∷_}
 use Prim.Native.Nat.{ℕ, zero, suc, _+_, _≤_, _<_, max}
+use native.Mathlib.Nat.{add-zero}
 use native.Mathlib.Decide.{decLt}
 use native.Mathlib.Omega.{arith}
 use lib.Dec.{eqb}
 use lib.ListN.{length, take, drop, getD, set, replicate, length-take, length-set, drop-of-length-le}
-use lib.Seq.{getD-take, set-out}
+use lib.Seq.{getD-take, set-out, drop-set-lt}
 use borrow.Author.Tests.{eq-eqb, ne-eqb}
 use Rattle.lists.specs.First.{first}
 use Rattle.lists.proofs.Maps.{take-set}
 use Rattle.circuit.specs.Circuit.{Gate}
+use Rattle.circuit.specs.Valuation.{Ordered}
 use Rattle.circuit.specs.Depth.{plusAnd}
 use Rattle.circuit.specs.ReverseDepth.{markOutputs, raise, raiseOperands, raiseGates}
 
@@ -55,12 +57,7 @@ pub raise-live : (n : ℕ) (g : Gate) (d : List ℕ) → getD d n 0 ≢ 0
 unfolding raiseOperands
 raise-live n g d e = rw (ne-eqb (getD d n 0) 0 e)
 
--- ---- a pass over a longer array, seen by one who looks at the first n places
-
-pub mark-take : (n : ℕ) (os d : List ℕ) → take n (markOutputs os d) ≡ markOutputs os (take n d)
-unfolding markOutputs
-mark-take n [] d = refl
-mark-take n (o ∷ os) d = mark-take n os (set d o 1) ∙ ap (markOutputs os) (take-set n d o 1)
+-- ---- a gate in a longer array, seen by one who looks at the first k places, or at those from k on
 
 raise-at-take : (k : ℕ) (d : List ℕ) (v x : ℕ) → take k (raise d v x) ≡ raise (take k d) v x
 raise-at-take k d v x =
@@ -72,7 +69,7 @@ raise-at-take k d v x =
           set-out (take k d) v (max (getD d v 0) x) b ∙ sym (set-out (take k d) v (max (getD (take k d) v 0) x) b)
     ]
 
-operands-take : (k n : ℕ) (g : Gate) (d : List ℕ) → n < k → take k (raiseOperands n g d) ≡ raiseOperands n g (take k d)
+pub operands-take : (k n : ℕ) (g : Gate) (d : List ℕ) → n < k → take k (raiseOperands n g d) ≡ raiseOperands n g (take k d)
 unfolding raiseOperands
 operands-take k n g d h = rw (getD-take k d n 0 h) (go (eqb (getD d n 0) 0) (plusAnd (g .kind) (getD d n 0)))
   where
@@ -80,11 +77,24 @@ operands-take k n g d h = rw (getD-take k d n 0 h) (go (eqb (getD d n 0) 0) (plu
     go true x = refl
     go false x = raise-at-take k (raise d (g .left) x) (g .right) x ∙ ap (λ e. raise e (g .right) x) (raise-at-take k d (g .left) x)
 
-pub raise-take : (k n : ℕ) (gs : List Gate) (d : List ℕ) → n + length gs ≤ k → take k (raiseGates n gs d) ≡ raiseGates n gs (take k d)
+pub operands-drop : (k n : ℕ) (g : Gate) (d : List ℕ) → g .left < k → g .right < k → drop k (raiseOperands n g d) ≡ drop k d
+unfolding raiseOperands
+operands-drop k n g d l r = go (eqb (getD d n 0) 0) (plusAnd (g .kind) (getD d n 0))
+  where
+    go : (b : Bool) (x : ℕ) → drop k (first b d (raise (raise d (g .left) x) (g .right) x)) ≡ drop k d
+    go true x = refl
+    go false x = drop-set-lt k (raise d (g .left) x) (g .right) _ r ∙ drop-set-lt k d (g .left) _ l
+
+-- when a gate's turn comes, what is above it is settled: the gates up to it raise only places below it
+pub raise-settled : (n : ℕ) (gs : List Gate) (d : List ℕ) (i k : ℕ) → Ordered n gs → n + i ≤ k + 1
+    → drop k (raiseGates n gs d) ≡ drop k (raiseGates (n + i) (drop i gs) d)
 unfolding raiseGates
-raise-take k n [] d h = refl
-raise-take k n (g ∷ gs) d h =
-    operands-take k n g (raiseGates (suc n) gs d) (omega arith) ∙ ap (raiseOperands n g) (raise-take k (suc n) gs d (omega arith))
+raise-settled n gs d zero k low h = rw add-zero
+raise-settled n [] d (suc i) k low h = refl
+raise-settled n (g ∷ gs) d (suc i) k low h =
+    let s : suc n + i ≡ n + suc i = omega arith in
+    operands-drop k n g (raiseGates (suc n) gs d) (omega (arith, low .0)) (omega (arith, low .0))
+    ∙ raise-settled (suc n) gs d i k (low .1) (omega arith) ∙ ap (λ m. drop k (raiseGates m (drop i gs) d)) s
 
 -- ---- lengths and bounds
 
@@ -93,7 +103,7 @@ unfolding markOutputs
 mark-length [] d = refl
 mark-length (o ∷ os) d = mark-length os (set d o 1) ∙ length-set d o 1
 
-operands-length : (n : ℕ) (g : Gate) (d : List ℕ) → length (raiseOperands n g d) ≡ length d
+pub operands-length : (n : ℕ) (g : Gate) (d : List ℕ) → length (raiseOperands n g d) ≡ length d
 unfolding raiseOperands
 operands-length n g d = go (eqb (getD d n 0) 0) (plusAnd (g .kind) (getD d n 0))
   where

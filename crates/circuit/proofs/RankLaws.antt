@@ -4,13 +4,12 @@ use mathlib.Core.Logic.{_≢_}
 use mathlib.Core.Bool.{Bool, true, false, true≢false}
 use mathlib.Core.List.{List, [], _∷_}
 use Prim.Native.Nat.{ℕ, zero, suc, _+_, _≤_, _<_}
-use native.Mathlib.Nat.{add-zero, not-suc-le-zero}
+use native.Mathlib.Nat.{add-zero}
 use native.Mathlib.Decide.{decLt, ℕ-discrete}
 use native.Mathlib.Numerals.{add-one}
 use native.Mathlib.Omega.{arith}
 use lib.Dec.{eqb}
-use lib.ListN.{length, drop, getD, length-append, List·getD-append, drop-of-length-le}
-use lib.Seq.{getD-at}
+use lib.ListN.{length, drop, getD, drop-of-length-le}
 use borrow.Author.Tests.{eq-eqb, ne-eqb}
 use Rattle.lists.specs.First.{first}
 use Rattle.lists.proofs.Each.{each-front}
@@ -18,7 +17,7 @@ use Rattle.circuit.specs.Circuit.{Gate}
 use Rattle.circuit.specs.Each.{countGates, EachGate}
 use Rattle.circuit.specs.Fold.{gateValue, foldGates}
 use Rattle.circuit.specs.Valuation.{Ordered}
-use Rattle.circuit.specs.Trim.{renameGate, rank, ranks, keepGates}
+use Rattle.circuit.specs.Trim.{renameGate, rank, keepGates}
 use Rattle.circuit.proofs.EachLaws.{each-zip}
 use Rattle.circuit.proofs.FoldLaws.{fold-solves, simulation}
 
@@ -85,22 +84,6 @@ module _ (kept : ℕ → Bool) where
       go : (b : Bool) → kept n ≡ b → rank kept n ≤ n → rank kept (suc n) ≤ suc n
       go true e h = omega (arith, rank-suc n e)
       go false e h = omega (arith, rank-same n e)
-
-  -- ---- the list of new numbers
-
-  pub ranks-length : (n : ℕ) → length (ranks kept n) ≡ n
-  unfolding ranks
-  ranks-length zero = refl
-  ranks-length (suc n) = length-append (ranks kept n) (rank kept n ∷ []) ∙ omega (arith, ranks-length n)
-
-  pub ranks-at : (n v : ℕ) → v < n → getD (ranks kept n) v 0 ≡ rank kept v
-  unfolding ranks
-  ranks-at zero v h = absurd (not-suc-le-zero h)
-  ranks-at (suc n) v h =
-      elim (decLt v n) [
-        | yes l ↦ List·getD-append (ranks kept n) (rank kept n ∷ []) 0 v (omega (arith, ranks-length n)) ∙ ranks-at n v l
-        | no l ↦ let e : v ≡ n = omega arith in rw e (getD-at (ranks kept n) (rank kept n) [] 0 n (ranks-length n))
-      ]
 
   -- ---- the gates that are kept: steps of a loop that has come to gate i, reference n + i
 

@@ -2,7 +2,7 @@
 -- in Theorems.antt.
 use Prim.Native.Nat.{ℕ, zero, suc, _+_}
 use mathlib.Core.Bool.{Bool, _||_}
-use mathlib.Core.List.{List, [], _∷_, _++_, map}
+use mathlib.Core.List.{List, [], _∷_, map}
 use lib.Dec.{ltb}
 use lib.ListN.{getD}
 use Rattle.lists.specs.First.{first}
@@ -18,11 +18,6 @@ renameGate ρ g = record { kind = g .kind; left = ρ (g .left); right = ρ (g .r
 unfoldable pub rank : (kept : ℕ → Bool) → (v : ℕ) → ℕ
 rank kept zero = 0
 rank kept (suc v) = first (kept v) (rank kept v + 1) (rank kept v)
-
--- the new numbers of the first n references
-unfoldable pub ranks : (kept : ℕ → Bool) → (n : ℕ) → List ℕ
-ranks kept zero = []
-ranks kept (suc n) = ranks kept n ++ (rank kept n ∷ [])
 
 -- the gates that are kept, renumbered; the first of the list is reference n
 unfoldable pub keepGates : (kept : ℕ → Bool) → (n : ℕ) → List Gate → List Gate

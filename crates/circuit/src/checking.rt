@@ -1,8 +1,14 @@
-// The refusal of a circuit's table, and its tests in the order of 01's refusals 4 to 7. Each test is true if the refusal does not apply.
+// The refusal of a circuit's table, and its tests in the order of 01's refusals 4 to 7; 6 and 7 in one walk. Each test is true if the
+// refusal does not apply.
 ghost use mathlib.Core.Path.{_≡_};
-ghost use Prim.Native.Nat.{_≤_};
-ghost use lib.ListN.{length};
+ghost use mathlib.Core.Bool.{_&&_};
+ghost use Prim.Native.Nat.{_+_, _*_, _≤_};
+ghost use lib.ListN.{length, drop};
+ghost use Rattle.circuit.specs.Circuit.{maxReferences};
+ghost use Rattle.circuit.specs.Each.{allGates};
 ghost use Rattle.circuit.specs.Refusal.{headInLimits, linesAsHeadSays, gateKindsOk, closingKindsOk, operandsOk, closingReferencesOk, refusal};
+ghost use Rattle.circuit.specs.Refusal.{hasGateKind, operandsBelow, isClosing, referenceBelow};
+ghost use Rattle.circuit.specs.Table.{lineAt, linesOf};
 ghost use Rattle.circuit.specs.WellFormed.{Sized};
 use crate::table::AND;
 use crate::table::CLOSING;
@@ -35,70 +41,85 @@ fn lines_as_head_says(t: &[u32]) -> bool
     t.len() == closings_from(t) + 3 * outputs
 }
 
-// Refusal 6 of the gates.
-fn gate_kinds_ok(t: &[u32]) -> bool
-    requires { ⌜ Sized (now t) ⌝ }
-    ensures { λ r. ⌜ r ≡ gateKindsOk (now (t .entry)) ⌝ }
-{
-    let from = gates_from(t);
-    let gates = t[1] as usize;
-    for i in 0..gates {
-        let kind = t[from + 3 * i];
-        if !((kind == XOR) | (kind == AND)) {
-            return false;
-        }
-    }
-    true
+// Which refusals do not apply to the lines tested so far: 6 as long as `kinds` is true, 7 as long as `references` is. Both are kept to the
+// end of a walk, since any 6 comes before all 7s.
+pub struct Tested {
+    pub kinds: bool,
+    pub references: bool,
 }
 
-// Refusal 6 of the closing lines.
-fn closing_kinds_ok(t: &[u32]) -> bool
-    requires { ⌜ Sized (now t) ⌝ }
-    ensures { λ r. ⌜ r ≡ closingKindsOk (now (t .entry)) ⌝ }
+// What the gate line at number p, whose own reference is `own`, leaves of `earlier`.
+pub fn test_gate(t: &[u32], p: usize, own: u32, earlier: Tested) -> Tested
+    requires { ⌜ p + 3 ≤ length (now t) ⌝ }
+    ensures { λ r. ⌜ r .kinds ≡ (earlier .kinds && hasGateKind own (lineAt (now (t .entry)) p)) ⌝ }
+    ensures { λ r. ⌜ r .references ≡ (earlier .references && operandsBelow own (lineAt (now (t .entry)) p)) ⌝ }
 {
-    let from = closings_from(t);
+    let kind = t[p];
+    let left = t[p + 1];
+    let right = t[p + 2];
+    Tested {
+        kinds: earlier.kinds & ((kind == XOR) | (kind == AND)),
+        references: earlier.references & ((left < own) & (right < own)),
+    }
+}
+
+// What n gate lines, from number q on, the first of them reference `first`, leave of `earlier`.
+pub fn test_gates(t: &[u32], q: usize, n: usize, first: u32, earlier: Tested) -> Tested
+    requires { ⌜ q + 3 * n ≤ length (now t) ⌝ }
+    requires { ⌜ first + n ≤ maxReferences ⌝ }
+    ensures { λ r. ⌜ r .kinds ≡ (earlier .kinds && allGates hasGateKind first (linesOf n (drop q (now (t .entry))))) ⌝ }
+    ensures { λ r. ⌜ r .references ≡ (earlier .references && allGates operandsBelow first (linesOf n (drop q (now (t .entry))))) ⌝ }
+{
+    let mut tested = earlier;
+    for i in 0..n {
+        tested = test_gate(t, q + 3 * i, first + i as u32, tested);
+    }
+    tested
+}
+
+// What the closing line at number p leaves of `earlier`, where references are to be below `top`.
+pub fn test_closing(t: &[u32], p: usize, top: u32, earlier: Tested) -> Tested
+    requires { ⌜ p + 3 ≤ length (now t) ⌝ }
+    ensures { λ r. ⌜ r .kinds ≡ (earlier .kinds && isClosing 0 (lineAt (now (t .entry)) p)) ⌝ }
+    ensures { λ r. ⌜ r .references ≡ (earlier .references && referenceBelow top 0 (lineAt (now (t .entry)) p)) ⌝ }
+{
+    let kind = t[p];
+    let reference = t[p + 1];
+    let last = t[p + 2];
+    Tested {
+        kinds: earlier.kinds & ((kind == CLOSING) & (last == 0)),
+        references: earlier.references & (reference < top),
+    }
+}
+
+// What n closing lines, from number q on, leave of `earlier`.
+fn test_closings(t: &[u32], q: usize, n: usize, top: u32, earlier: Tested) -> Tested
+    requires { ⌜ q + 3 * n ≤ length (now t) ⌝ }
+    ensures { λ r. ⌜ r .kinds ≡ (earlier .kinds && allGates isClosing 0 (linesOf n (drop q (now (t .entry))))) ⌝ }
+    ensures { λ r. ⌜ r .references ≡ (earlier .references && allGates (referenceBelow top) 0 (linesOf n (drop q (now (t .entry))))) ⌝ }
+{
+    let mut tested = earlier;
+    for i in 0..n {
+        tested = test_closing(t, q + 3 * i, top, tested);
+    }
+    tested
+}
+
+// Refusals 6 and 7, in one walk over the lines behind the head.
+fn test_lines(t: &[u32]) -> Tested
+    requires { ⌜ Sized (now t) ⌝ }
+    ensures { λ r. ⌜ r .kinds ≡ (gateKindsOk (now (t .entry)) && closingKindsOk (now (t .entry))) ⌝ }
+    ensures { λ r. ⌜ r .references ≡ (operandsOk (now (t .entry)) && closingReferencesOk (now (t .entry))) ⌝ }
+{
+    let gates = t[1];
     let outputs = t[2] as usize;
-    for i in 0..outputs {
-        let p = from + 3 * i;
-        if !((t[p] == CLOSING) & (t[p + 2] == 0)) {
-            return false;
-        }
-    }
-    true
-}
-
-// Refusal 7 of the gates.
-fn operands_ok(t: &[u32]) -> bool
-    requires { ⌜ Sized (now t) ⌝ }
-    ensures { λ r. ⌜ r ≡ operandsOk (now (t .entry)) ⌝ }
-{
-    let from = gates_from(t);
     let first = first_gate(t);
-    let gates = t[1] as usize;
-    for i in 0..gates {
-        let p = from + 3 * i;
-        let own = first + i as u32;
-        if !((t[p + 1] < own) & (t[p + 2] < own)) {
-            return false;
-        }
-    }
-    true
-}
-
-// Refusal 7 of the closing lines.
-fn closing_references_ok(t: &[u32]) -> bool
-    requires { ⌜ Sized (now t) ⌝ }
-    ensures { λ r. ⌜ r ≡ closingReferencesOk (now (t .entry)) ⌝ }
-{
-    let from = closings_from(t);
-    let references = first_gate(t) + t[1];
-    let outputs = t[2] as usize;
-    for i in 0..outputs {
-        if !(t[from + 3 * i + 1] < references) {
-            return false;
-        }
-    }
-    true
+    let untested = Tested {
+        kinds: true,
+        references: true,
+    };
+    let gates_tested = test_gates(t, gates_from(t), gates as usize, first, untested);
+    test_closings(t, closings_from(t), outputs, first + gates, gates_tested)
 }
 
 // The number of the first refusal that applies to the table, or 0.
@@ -114,10 +135,11 @@ pub fn refusal(t: &[u32]) -> u32
     if !lines_as_head_says(t) {
         return 5;
     }
-    if !(gate_kinds_ok(t) & closing_kinds_ok(t)) {
+    let tested = test_lines(t);
+    if !tested.kinds {
         return 6;
     }
-    if !(operands_ok(t) & closing_references_ok(t)) {
+    if !tested.references {
         return 7;
     }
     0

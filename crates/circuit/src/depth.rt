@@ -4,9 +4,9 @@ ghost use Prim.Native.Nat.{_+_, _≤_, max};
 ghost use lib.ListN.{length, take, replicate};
 ghost use Rattle.lines.specs.Calls.{over};
 ghost use Rattle.circuit.specs.Circuit.{maxDepth, firstGate};
-ghost use Rattle.circuit.specs.Table.{inputs, refs, decode};
+ghost use Rattle.circuit.specs.Table.{inputs, gates, refs, decode};
 ghost use Rattle.circuit.specs.WellFormed.{WellFormed};
-ghost use Rattle.circuit.specs.Depth.{isCounted, plusAnd, depthOp, startDepths, depths, circuitDepth};
+ghost use Rattle.circuit.specs.Depth.{isCounted, plusAnd, depthOp, depths, circuitDepth};
 use crate::table::AND;
 use crate::table::closings_from;
 use crate::table::first_gate;
@@ -54,17 +54,18 @@ pub fn clear(d: &mut [u32], n: usize)
     }
 }
 
-// The depths of the gates, behind those of the constants and inputs.
-fn append_depths(t: &[u32], d: &mut [u32])
+// The depths of the gates from gate `start` on, where d begins with those of the references before them.
+pub fn depths_from(t: &[u32], start: usize, d: &mut [u32])
     requires { ⌜ WellFormed (now t) ⌝ }
     requires { ⌜ refs (now t) ≤ length (now d) ⌝ }
-    requires { ⌜ take (firstGate (inputs (now t))) (now d) ≡ startDepths (inputs (now t)) ⌝ }
+    requires { ⌜ start ≤ gates (now t) ⌝ }
+    requires { ⌜ take (firstGate (inputs (now t)) + start) (now d) ≡ take (firstGate (inputs (now t)) + start) (depths (decode (now t))) ⌝ }
     ensures { λ _. ⌜ now (d .exit) ≡ over (depths (decode (now (t .entry)))) (now (d .entry)) ⌝ }
 {
     let from = gates_from(t);
     let first = first_gate(t) as usize;
     let gates = t[1] as usize;
-    for i in 0..gates {
+    for i in start..gates {
         let g = gate_line(t, from, i);
         let left = g.left as usize;
         let right = g.right as usize;
@@ -79,7 +80,7 @@ pub fn depths(t: &[u32], d: &mut [u32])
     ensures { λ _. ⌜ now (d .exit) ≡ over (depths (decode (now (t .entry)))) (now (d .entry)) ⌝ }
 {
     clear(d, first_gate(t) as usize);
-    append_depths(t, d);
+    depths_from(t, 0, d);
 }
 
 // The largest depth of an output, where d begins with the depths.

@@ -26,6 +26,12 @@ pub const MAX_LINES: usize = (1 + MAX_GATES + MAX_OUTPUTS) as usize;
 
 pub const MAX_TABLE: usize = 3 * MAX_LINES;
 
+// Zeroing an array for the largest circuit is seen in calls on small ones. So a call that makes arrays of its own makes them of these sizes
+// where a table, or its references, fit.
+pub const SMALL_TABLE: usize = 3 * 1200;
+
+pub const SMALL_REFERENCES: usize = 768;
+
 pub const XOR: u32 = 1;
 
 pub const AND: u32 = 2;

@@ -91,6 +91,17 @@ pub line-test-at : (t : List ℕ) (at : ℕ) → at + 19 ≤ length t
     → isNumber (drop at t) && isNumber (drop (at + 6) t) && isNumber (drop (at + 12) t) && eqb (getD t (at + 18) 0) 10 ≡ isLine (drop at t)
 line-test-at t at h = simp (getD-drop, drop-drop) at (line-test (drop at t) (rw length-drop (omega arith)))
 
+-- the three numbers of a line
+pub line-numbers : (t : List ℕ) (at : ℕ) → at + 19 ≤ length t → isLine (drop at t) ≡ true
+    → (isNumber (drop at t) ≡ true) × (isNumber (drop (at + 6) t) ≡ true) × (isNumber (drop (at + 12) t) ≡ true)
+line-numbers t at h e =
+    let a = isNumber (drop at t) in
+    let b = isNumber (drop (at + 6) t) in
+    let c = isNumber (drop (at + 12) t) in
+    let abc = left-of (a && b && c) _ (line-test-at t at h ∙ e) in
+    let ab = left-of (a && b) c abc in
+    (left-of a b ab, right-of a b ab, right-of (a && b) c abc)
+
 -- the stores of three numbers and byte 10 are those of a line
 line-stores : (l : List ℕ) (to a b c : ℕ)
     → set (sets (sets (sets l to (writeNumber a)) (to + 6) (writeNumber b)) (to + 12) (writeNumber c)) (to + 18) 10

@@ -1,4 +1,4 @@
--- One number: its columns, the test of its columns, and reading back what was written. Assumes nothing.
+-- One number: its columns, the test of its columns, reading them, and reading back what was written. Assumes nothing.
 use mathlib.Core.Path.{_≡_, refl, sym, ap, _∙_, subst}
 use mathlib.Core.Bool.{Bool, true, false, _&&_, _||_, false≢true}
 use mathlib.Core.List.{List, [], _∷_, _++_, append-assoc}
@@ -263,6 +263,45 @@ number-test t h = rw (first-six t h) (six-test (getD t 0 0) (getD t 1 0) (getD t
 pub number-test-at : (t : List ℕ) (at : ℕ) → at + 6 ≤ length t
     → passes (getD t at 0) (getD t (at + 1) 0) (getD t (at + 2) 0) (getD t (at + 3) 0) (getD t (at + 4) 0) (getD t (at + 5) 0) ≡ isNumber (drop at t)
 number-test-at t at h = simp (getD-drop, add-zero) at (number-test (drop at t) (rw length-drop (omega arith)))
+
+-- ---- reading six columns that are a number
+
+-- the low half of a column's byte is what it adds
+column-low : (v : ℕ) → column v % 16 ≡ columnValue (column v)
+column-low v = go (eqb v 0)
+  where
+    go : (b : Bool) → first b 32 (digit (v % 10)) % 16 ≡ columnValue (first b 32 (digit (v % 10)))
+    go true = refl
+    go false = omega arith
+
+six-low : (a b c d e f n : ℕ) → a ∷ b ∷ c ∷ d ∷ e ∷ f ∷ [] ≡ writeNumber n
+    → ((((a % 16 * 10 + b % 16) * 10 + c % 16) * 10 + d % 16) * 10 + e % 16) * 10 + f % 16 ≡ shows a b c d e f
+six-low a b c d e f n w =
+    let x = w ∙ six-columns n in
+    let low : (byte v : ℕ) → byte ≡ column v → byte % 16 ≡ columnValue byte = λ byte v q. rw q (column-low v) in
+    let last : f ≡ digit (n % 10) = ap (λ (l : List ℕ). getD l 5 0) x in
+    let low-f : f % 16 ≡ columnValue f = omega arith in
+    rw (
+      low a (n / 10 / 10 / 10 / 10 / 10) (ap (λ (l : List ℕ). getD l 0 0) x),
+      low b (n / 10 / 10 / 10 / 10) (ap (λ (l : List ℕ). getD l 1 0) x),
+      low c (n / 10 / 10 / 10) (ap (λ (l : List ℕ). getD l 2 0) x),
+      low d (n / 10 / 10) (ap (λ (l : List ℕ). getD l 3 0) x),
+      low e (n / 10) (ap (λ (l : List ℕ). getD l 4 0) x),
+      low-f,
+    )
+
+number-low : (t : List ℕ) → 6 ≤ length t → isNumber t ≡ true
+    → ((((getD t 0 0 % 16 * 10 + getD t 1 0 % 16) * 10 + getD t 2 0 % 16) * 10 + getD t 3 0 % 16) * 10 + getD t 4 0 % 16) * 10 + getD t 5 0 % 16 ≡ readNumber t
+unfolding readNumber
+number-low t h e =
+    six-low (getD t 0 0) (getD t 1 0) (getD t 2 0) (getD t 3 0) (getD t 4 0) (getD t 5 0) (readNumber t)
+    (sym (first-six t h) ∙ same-is (take 6 t) (writeNumber (readNumber t)) (right-of (leb (readNumber t) 999999) _ e))
+
+-- the same of the bytes from a place on
+pub number-low-at : (t : List ℕ) (at : ℕ) → at + 6 ≤ length t → isNumber (drop at t) ≡ true
+    → ((((getD t at 0 % 16 * 10 + getD t (at + 1) 0 % 16) * 10 + getD t (at + 2) 0 % 16) * 10 + getD t (at + 3) 0 % 16) * 10
+    + getD t (at + 4) 0 % 16) * 10 + getD t (at + 5) 0 % 16 ≡ readNumber (drop at t)
+number-low-at t at h e = simp (getD-drop, add-zero) at (number-low (drop at t) (rw length-drop (omega arith)) e)
 
 -- ---- reading back
 

@@ -1,4 +1,4 @@
--- Texts and tables of whole lines: the first lines of a text, and what reading and writing make of all. Assumes nothing.
+-- Texts and tables of whole lines: the first lines of a text, the first rows of a table, and what reading and writing make of them. Assumes nothing.
 use mathlib.Core.Path.{_≡_, refl, sym, ap, ap₂, _∙_}
 use mathlib.Core.Bool.{Bool, true, false, not, _&&_}
 use mathlib.Core.List.{List, [], _∷_, _++_}
@@ -15,9 +15,9 @@ use Rattle.lists.proofs.Fronts.{all-fewer, all-append, map-append, map-fewer}
 use Rattle.lines.specs.Number.{readNumber}
 use Rattle.lines.specs.Line.{isRow, isLine, readLine, writeLine}
 use Rattle.lines.specs.Text.{isPartial, isTable, readText, writeTable}
-use Rattle.lines.specs.Calls.{over, reading, writing}
+use Rattle.lines.specs.Calls.{over}
 use Rattle.lines.proofs.LineLaws.{row-length, line-length}
-use Rattle.lines.proofs.CallLaws.{Valid, whole-is, conversion-done}
+use Rattle.lines.proofs.CallLaws.{Valid, whole-is}
 
 -- whole lines, at least one
 pub whole-passes : (size n : ℕ) (t : List ℕ) → 0 < size → length t ≡ size * n → 0 < n → isPartial size t ≡ false
@@ -63,39 +63,43 @@ line-near t r h = rw (read-near t r h, take-append-le 19 t r h)
 
 -- ---- the first k lines of a text
 
-module _ (text : List ℕ) (n : ℕ) (v : Valid 19 isLine text n) (k : ℕ) (some : 0 < k) (fewer : k ≤ n) where
-  front-long : length (take (19 * k) text) ≡ 19 * k
-  front-long = length-take-le (19 * k) text (omega (arith, v .whole .long))
+module _ (text : List ℕ) (n : ℕ) (v : Valid 19 isLine text n) (k : ℕ) (fewer : k ≤ n) where
+  pub front-right : allRecords isLine 19 k text ≡ true
+  front-right = all-fewer isLine 19 k n text fewer (v .right)
 
-  pub front-valid : Valid 19 isLine (take (19 * k) text) k
-  front-valid =
-      record {
-        whole = record { count = sym (ap (λ (j : ℕ). j / 19) front-long ∙ mul-div-right k (omega arith)); long = front-long; some = some };
-        not-partial = whole-passes 19 k (take (19 * k) text) (omega arith) front-long some;
-        right =
-            sym (all-append isLine 19 line-near k (take (19 * k) text) (drop (19 * k) text) front-long)
-            ∙ ap (allRecords isLine 19 k) (take-append-drop (19 * k) text) ∙ all-fewer isLine 19 k n text fewer (v .right);
-      }
-
-  front-numbers : mapRecords readLine 19 k (take (19 * k) text) ≡ take (3 * k) (readText text)
+  front-numbers : mapRecords readLine 19 k text ≡ take (3 * k) (readText text)
   unfolding readText
   front-numbers =
-      sym (map-append readLine 19 read-near k (take (19 * k) text) (drop (19 * k) text) front-long)
-      ∙ ap (mapRecords readLine 19 k) (take-append-drop (19 * k) text)
-      ∙ sym (ap (λ j. take (3 * k) (mapRecords readLine 19 j text)) (sym (v .whole .count)) ∙ map-fewer readLine 19 3 row-length k n text fewer)
-
-  pub front-reads : readText (take (19 * k) text) ≡ take (3 * k) (readText text)
-  unfolding readText
-  front-reads = ap (λ j. mapRecords readLine 19 j (take (19 * k) text)) (sym (front-valid .whole .count)) ∙ front-numbers
+      sym (ap (λ j. take (3 * k) (mapRecords readLine 19 j text)) (sym (v .whole .count)) ∙ map-fewer readLine 19 3 row-length k n text fewer)
 
   pub front-length : length (take (3 * k) (readText text)) ≡ 3 * k
-  front-length = ap length (sym front-numbers) ∙ map-length readLine 19 3 row-length k (take (19 * k) text)
+  front-length = ap length (sym front-numbers) ∙ map-length readLine 19 3 row-length k text
 
-  -- what the call `read` leaves
-  pub front-read : (table : List ℕ) → 3 * k ≤ length table → reading (take (19 * k) text) table .buffers ≡ over (take (3 * k) (readText text)) table
-  front-read table room =
-      ap (λ o. o .buffers) (sym (conversion-done 19 3 isLine readLine (take (19 * k) text) table k front-valid row-length room _ refl))
-      ∙ ap₂ (λ x j. x ++ drop j table) front-numbers (sym front-length)
+  -- what `read_lines` leaves
+  pub front-read : (table after : List ℕ) → after ≡ mapRecords readLine 19 k text ++ drop (3 * k) table → after ≡ over (take (3 * k) (readText text)) table
+  front-read table after e = e ∙ ap₂ (λ x j. x ++ drop j table) front-numbers (sym front-length)
+
+  -- the same lines as a text of their own
+  module _ (some : 0 < k) where
+    front-long : length (take (19 * k) text) ≡ 19 * k
+    front-long = length-take-le (19 * k) text (omega (arith, v .whole .long))
+
+    pub front-valid : Valid 19 isLine (take (19 * k) text) k
+    front-valid =
+        record {
+          whole = record { count = sym (ap (λ (j : ℕ). j / 19) front-long ∙ mul-div-right k (omega arith)); long = front-long; some = some };
+          not-partial = whole-passes 19 k (take (19 * k) text) (omega arith) front-long some;
+          right =
+              sym (all-append isLine 19 line-near k (take (19 * k) text) (drop (19 * k) text) front-long)
+              ∙ ap (allRecords isLine 19 k) (take-append-drop (19 * k) text) ∙ front-right;
+        }
+
+    pub front-reads : readText (take (19 * k) text) ≡ take (3 * k) (readText text)
+    unfolding readText
+    front-reads =
+        ap (λ j. mapRecords readLine 19 j (take (19 * k) text)) (sym (front-valid .whole .count))
+        ∙ sym (map-append readLine 19 read-near k (take (19 * k) text) (drop (19 * k) text) front-long)
+        ∙ ap (mapRecords readLine 19 k) (take-append-drop (19 * k) text) ∙ front-numbers
 
 -- all of its numbers
 pub numbers-length : (text : List ℕ) (n : ℕ) → Valid 19 isLine text n → length (readText text) ≡ 3 * n
@@ -139,20 +143,27 @@ pub valid-table : (t : List ℕ) (n : ℕ) → Valid 3 isRow t n → isTable t �
 unfolding isTable
 valid-table = all-valid 3 isRow
 
-table-valid : (t : List ℕ) → isTable t ≡ true → Valid 3 isRow t (length t / 3)
-unfolding isTable
-table-valid = valid-all 3 isRow
-
 pub bytes-length : (t : List ℕ) (n : ℕ) → length t ≡ 3 * n → length (writeTable t) ≡ 19 * n
 unfolding writeTable
 bytes-length t n l =
     map-length writeLine 3 19 line-length (length t / 3) t ∙ ap (λ k. 19 * k) (ap (λ (k : ℕ). k / 3) l ∙ mul-div-right n (omega arith))
 
--- what the call `write` leaves
-pub table-written : (t buffer : List ℕ) → isTable t ≡ true → length (writeTable t) ≤ length buffer → writing t buffer .buffers ≡ over (writeTable t) buffer
-unfolding writeTable
-table-written t buffer e room =
-    let l = map-length writeLine 3 19 line-length (length t / 3) t in
-    ap (λ o. o .buffers)
-    (sym (conversion-done 3 19 isRow writeLine t buffer (length t / 3) (table-valid t e) line-length (omega (arith, l)) _ refl))
-    ∙ ap (λ k. mapRecords writeLine 3 (length t / 3) t ++ drop k buffer) (sym l)
+-- ---- the first n rows of a table
+
+write-near : (t r : List ℕ) → 3 ≤ length t → writeLine (t ++ r) ≡ writeLine t
+unfolding writeLine
+write-near t r h =
+    rw (List·getD-append t r 0 0 (omega arith), List·getD-append t r 0 1 (omega arith), List·getD-append t r 0 2 (omega arith))
+
+module _ (t : List ℕ) (n : ℕ) (some : 3 * n ≤ length t) where
+  rows-bytes : mapRecords writeLine 3 n t ≡ writeTable (take (3 * n) t)
+  unfolding writeTable
+  rows-bytes =
+      let l = length-take-le (3 * n) t some in
+      ap (mapRecords writeLine 3 n) (sym (take-append-drop (3 * n) t)) ∙ map-append writeLine 3 write-near n (take (3 * n) t) (drop (3 * n) t) l
+      ∙ ap (λ j. mapRecords writeLine 3 j (take (3 * n) t)) (sym (ap (λ (j : ℕ). j / 3) l ∙ mul-div-right n (omega arith)))
+
+  -- what `write_lines` leaves
+  pub rows-written : (buffer after : List ℕ) → after ≡ mapRecords writeLine 3 n t ++ drop (19 * n) buffer → after ≡ over (writeTable (take (3 * n) t)) buffer
+  rows-written buffer after e =
+      e ∙ ap₂ (λ x j. x ++ drop j buffer) rows-bytes (sym (bytes-length (take (3 * n) t) n (length-take-le (3 * n) t some)))

@@ -4,6 +4,8 @@ ghost use mathlib.Core.List.{[], _∷_};
 ghost use Prim.Native.Nat.{_+_, _≤_};
 ghost use lib.ListN.{length};
 ghost use lib.Seq.{sets};
+pub use crate::text::read_lines;
+pub use crate::text::write_lines;
 
 // The row of three numbers from `at` on.
 pub fn write_row(table: &mut [u32], at: usize, a: u32, b: u32, c: u32)

@@ -1,5 +1,6 @@
 // One line, and the row of three numbers that it shows.
 ghost use mathlib.Core.Path.{_≡_};
+ghost use mathlib.Core.Bool.{true};
 ghost use Prim.Native.Nat.{_+_, _≤_};
 ghost use lib.ListN.{length, drop};
 ghost use lib.Seq.{sets};
@@ -34,6 +35,7 @@ pub fn is_row(table: &[u32], at: usize) -> bool
 // Reads the line at `at` into the three places from `to`.
 pub fn read_line(text: &[u8], at: usize, table: &mut [u32], to: usize)
     requires { ⌜ at + 19 ≤ length (now text) ⌝ }
+    requires { ⌜ isLine (drop at (now text)) ≡ true ⌝ }
     requires { ⌜ to + 3 ≤ length (now table) ⌝ }
     ensures { λ _. ⌜ now (table .exit) ≡ sets (now (table .entry)) to (readLine (drop at (now (text .entry)))) ⌝ }
 {

@@ -1,24 +1,24 @@
 // One number in six columns.
 ghost use mathlib.Core.Path.{_≡_};
-ghost use mathlib.Core.Bool.{_&&_, _||_};
+ghost use mathlib.Core.Bool.{true, _&&_, _||_};
 ghost use Prim.Native.Nat.{_+_, _%_, _≤_};
 ghost use lib.Dec.{eqb, leb};
 ghost use lib.ListN.{length, drop};
 ghost use lib.Seq.{sets};
 ghost use Rattle.lists.specs.First.{first};
-ghost use Rattle.lines.specs.Number.{digit, columnValue, readNumber, writeNumber, isNumber};
+ghost use Rattle.lines.specs.Number.{digit, readNumber, writeNumber, isNumber};
 
-// What a column adds to the number.
+// What a column adds to its number: a digit's byte is 48 and its value, a blank's is 32, so the rest by 16 needs no test.
 fn column_value(byte: u8) -> u32
-    ensures { λ r. ⌜ r ≡ columnValue byte ⌝ }
-    ensures { λ r. ⌜ r ≤ 207 ⌝ }
+    ensures { λ r. ⌜ r ≡ byte % 16 ⌝ }
 {
-    if byte < 48 { 0 } else { (byte - 48) as u32 }
+    (byte % 16) as u32
 }
 
-// The number that the six columns from `at` show, if they show one.
+// The number that the six columns from `at` show.
 pub fn read_number(text: &[u8], at: usize) -> u32
     requires { ⌜ at + 6 ≤ length (now text) ⌝ }
+    requires { ⌜ isNumber (drop at (now text)) ≡ true ⌝ }
     ensures { λ r. ⌜ r ≡ readNumber (drop at (now (text .entry))) ⌝ }
 {
     let a = column_value(text[at]);

@@ -1,11 +1,10 @@
 -- Laws of `allBelow` and `mapBelow`: loops that test or list the numbers below n, and what holds of each. Assumes nothing.
 use mathlib.Core.Path.{_≡_, refl, sym, ap, ap₂, _∙_}
-use mathlib.Core.Bool.{Bool, true, false, and-false}
+use mathlib.Core.Bool.{Bool, true}
 use mathlib.Core.List.{[], _∷_, _++_, map, map-append}
-use Prim.Native.Nat.{ℕ, zero, suc, _+_, _≤_, _<_}
+use Prim.Native.Nat.{ℕ, zero, suc, _≤_, _<_}
 use native.Mathlib.Nat.{not-suc-le-zero, le-refl}
 use native.Mathlib.Decide.{decLt}
-use native.Mathlib.Numerals.{add-one}
 use native.Mathlib.Omega.{arith}
 use lib.ListN.{length, take, getD, length-append, List·getD-append, List·getD-eq-default}
 use lib.Seq.{take-all, take-append-le, getD-append-seam}
@@ -16,24 +15,6 @@ module _ (test : ℕ → Bool) where
   pub below-none : allBelow test 0 ≡ true
   unfolding allBelow
   below-none = refl
-
-  -- a turn of a loop that tests: one number more passes
-  pub below-turn : (i : ℕ) → allBelow test i ≡ true → test i ≡ true → allBelow test (i + 1) ≡ true
-  unfolding allBelow
-  below-turn i e h = rw (add-one, e, h)
-
-  -- one number that fails is enough
-  pub below-fails : (i n : ℕ) → i < n → test i ≡ false → allBelow test n ≡ false
-  unfolding allBelow
-  below-fails i zero h e = absurd (not-suc-le-zero h)
-  below-fails i (suc n) h e =
-      elim (decLt i n) [
-        | yes l ↦ rw (below-fails i n l e)
-        | no l ↦
-            let q : i ≡ n = omega arith in
-            let f : test n ≡ false = ap test (sym q) ∙ e in
-            rw (f, and-false)
-      ]
 
   -- a number of those that all pass
   pub below-at : (n i : ℕ) → allBelow test n ≡ true → i < n → test i ≡ true

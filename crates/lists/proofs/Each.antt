@@ -1,11 +1,11 @@
 -- Laws of `appendEach`, and loops that compute it in place: each new value is stored behind those before it. Assumes nothing.
 use mathlib.Core.Path.{_≡_, refl, sym, ap, ap₂, _∙_}
 use mathlib.Core.List.{List, [], _∷_, _++_}
-use Prim.Native.Nat.{ℕ, suc, _+_, _≤_, _<_}
-use native.Mathlib.Nat.{add-zero}
+use Prim.Native.Nat.{ℕ, zero, suc, _+_, _≤_, _<_}
+use native.Mathlib.Nat.{add-zero, le-of-eq}
 use native.Mathlib.Omega.{arith}
-use lib.ListN.{length, take, drop, getD, set, length-set, length-append, drop-of-length-le, take-append-drop, List·getD-append}
-use lib.Seq.{take-suc-set, length-take-le, drop-set-lt, drop-drop, getD-take}
+use lib.ListN.{length, take, drop, getD, set, length-set, length-append, drop-of-length-le, take-append-drop}
+use lib.Seq.{take-all, take-at, take-take, take-suc-set, length-take-le, drop-nil, drop-set-lt, drop-drop, getD-take}
 use Rattle.lists.specs.Each.{appendEach}
 
 module _ {A B : Type 0} (make : A → List B → B) where
@@ -15,11 +15,24 @@ module _ {A B : Type 0} (make : A → List B → B) where
   each-length (x ∷ xs) vs = each-length xs (vs ++ (make x vs ∷ [])) ∙ omega (arith, length-append vs (make x vs ∷ []))
 
   -- later values leave those before them as they are
-  pub each-front : (xs : List A) (vs : List B) (i : ℕ) (z : B) → i < length vs → getD (appendEach make xs vs) i z ≡ getD vs i z
+  pub each-begin : (xs : List A) (vs : List B) (n : ℕ) → length vs ≡ n → take n (appendEach make xs vs) ≡ vs
   unfolding appendEach
-  each-front [] vs i z h = refl
-  each-front (x ∷ xs) vs i z h =
-      each-front xs (vs ++ (make x vs ∷ [])) i z (omega (arith, length-append vs (make x vs ∷ []))) ∙ List·getD-append vs (make x vs ∷ []) z i h
+  each-begin [] vs n e = take-all n vs (le-of-eq e)
+  each-begin (x ∷ xs) vs n e =
+      let ws = vs ++ (make x vs ∷ []) in
+      sym (take-take n (suc n) (appendEach make xs ws) (omega arith))
+      ∙ ap (take n) (each-begin xs ws (suc n) (omega (arith, length-append vs (make x vs ∷ [])))) ∙ take-at vs (make x vs ∷ []) n e
+
+  pub each-front : (xs : List A) (vs : List B) (i : ℕ) (z : B) → i < length vs → getD (appendEach make xs vs) i z ≡ getD vs i z
+  each-front xs vs i z h = sym (getD-take (length vs) (appendEach make xs vs) i z h) ∙ ap (λ l. getD l i z) (each-begin xs vs (length vs) refl)
+
+  -- behind the first i values, the others come out as they were
+  pub each-resume : (xs : List A) (vs : List B) (n i : ℕ) → length vs + i ≡ n
+      → appendEach make (drop i xs) (take n (appendEach make xs vs)) ≡ appendEach make xs vs
+  unfolding appendEach
+  each-resume [] vs n i e = rw (drop-nil {A = A} i) (take-all n vs (omega arith))
+  each-resume (x ∷ xs) vs n zero e = ap (appendEach make (x ∷ xs)) (each-begin (x ∷ xs) vs n (omega arith))
+  each-resume (x ∷ xs) vs n (suc i) e = each-resume xs (vs ++ (make x vs ∷ [])) n i (omega (arith, length-append vs (make x vs ∷ [])))
 
 -- the first m + i places of d hold the first i values behind `start`, m of them
 pub record Filled {A B : Type 0} (make : A → List B → B) (xs : List A) (start : List B) (m size : ℕ) (d : List B) (i : ℕ) : Type 0 where
@@ -51,8 +64,13 @@ pub record FilledOver {A B : Type 0} (make : A → List B → B) (xs : List A) (
   pub beyond : drop (m + i) d ≡ drop (m + i) d₀
 
 module _ {A B : Type 0} (make : A → List B → B) (xs : List A) (start : List B) (m : ℕ) (d₀ : List B) where
-  pub filled-over-none : take m d₀ ≡ start → FilledOver make xs start m d₀ d₀ 0
-  filled-over-none e = record { filled = filled-none make xs start m (length d₀) d₀ e refl; beyond = refl }
+  -- a loop that goes on behind the first i values, which are there already
+  pub filled-over-from : (i : ℕ) → length start ≡ m → take (m + i) d₀ ≡ take (m + i) (appendEach make xs start) → FilledOver make xs start m d₀ d₀ i
+  filled-over-from i l e =
+      record {
+        filled = record { values = ap (appendEach make (drop i xs)) e ∙ each-resume make xs start (m + i) i (omega arith); long = refl };
+        beyond = refl;
+      }
 
   module _ (d : List B) (i : ℕ) (f : FilledOver make xs start m d₀ d i) where
     pub filled-over-more : (v : B) (x : A) → drop i xs ≡ x ∷ drop (i + 1) xs → m + i < length d₀ → v ≡ make x (take (m + i) d)

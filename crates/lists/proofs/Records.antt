@@ -1,7 +1,7 @@
 -- Laws of `mapRecords` and `allRecords`: what loops over records, and readers of their results, need. Assumes nothing.
 use mathlib.Core.Path.{_≡_, refl, sym, ap, _∙_}
 use mathlib.Core.List.{List, [], _∷_, _++_, append-assoc, append-nil}
-use mathlib.Core.Bool.{Bool, true, false, _&&_, and-true, and-false, and-assoc}
+use mathlib.Core.Bool.{Bool, true, _&&_, and-true, and-assoc}
 use Prim.Native.Nat.{ℕ, zero, suc, _+_, _*_, _≤_, _<_}
 use native.Mathlib.Nat.{zero-add, mul-zero, mul-suc, add-comm, not-suc-le-zero, le-of-suc-le-suc}
 use native.Mathlib.Numerals.{add-one}
@@ -17,25 +17,11 @@ next : (size n : ℕ) → size + size * n ≡ size * suc n
 next size n = add-comm size (size * n) ∙ sym (mul-suc size n)
 
 module _ {A : Type 0} (test : List A → Bool) (size : ℕ) where
-  all-more : (n : ℕ) (t : List A) → allRecords test size (suc n) t ≡ allRecords test size n t && test (drop (size * n) t)
+  -- a turn of a loop that tests each record
+  pub all-more : (n : ℕ) (t : List A) → allRecords test size (suc n) t ≡ allRecords test size n t && test (drop (size * n) t)
   unfolding allRecords
   all-more zero t = rw (mul-zero, and-true)
   all-more (suc n) t = ap (λ (b : Bool). test t && b) (all-more n (drop size t)) ∙ rw (drop-drop, next, and-assoc)
-
-  -- a turn of a loop that tests: one record more passes
-  pub all-turn : (n : ℕ) (t : List A) → allRecords test size n t ≡ true → test (drop (size * n) t) ≡ true → allRecords test size (n + 1) t ≡ true
-  all-turn n t e h = rw (add-one, all-more n t, e, h)
-
-  -- one record that fails is enough
-  pub all-fails : (i n : ℕ) (t : List A) → i < n → test (drop (size * i) t) ≡ false → allRecords test size n t ≡ false
-  unfolding allRecords
-  all-fails i zero t h e = absurd (not-suc-le-zero h)
-  all-fails zero (suc n) t h e =
-      let e′ : test t ≡ false = rw mul-zero at e in
-      rw e′
-  all-fails (suc i) (suc n) t h e =
-      let ih : allRecords test size n (drop size t) ≡ false = all-fails i n (drop size t) (le-of-suc-le-suc h) (rw (drop-drop, next) e) in
-      rw (ih, and-false)
 
   -- record i of those that all pass
   pub all-at : (i n : ℕ) (t : List A) → i < n → allRecords test size n t ≡ true → test (drop (size * i) t) ≡ true

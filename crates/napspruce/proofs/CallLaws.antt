@@ -1,7 +1,7 @@
 -- The listing of tables, of their fronts, and of texts. Assumes nothing.
 use mathlib.Core.Path.{_≡_, sym, ap, ap₂, _∙_}
 use mathlib.Core.Logic.{⊎-elim}
-use mathlib.Core.Bool.{true, false}
+use mathlib.Core.Bool.{false}
 use mathlib.Core.List.{List, [], _∷_}
 use Prim.Native.Nat.{ℕ, _+_, _*_, _/_, _≤_}
 use native.Mathlib.Decide.{decLt}
@@ -10,12 +10,12 @@ use lib.Dec.{ltb}
 use lib.ListN.{length, take, drop, getD, replicate, length-append, length-replicate}
 use lib.Seq.{length-take-le, take-all}
 use borrow.Author.Tests.{le-ltb}
-use Rattle.lines.specs.Text.{isPartial, isTable, readText, writeTable}
+use Rattle.lines.specs.Text.{isPartial, readText, writeTable}
 use Rattle.lines.specs.Refusal.{refused, gives, noTable, leaving}
 use Rattle.lines.specs.Checks.{found, check, answering, afterwards}
 use Rattle.lines.specs.Calls.{over}
 use Rattle.lines.proofs.CheckLaws.{check-passes, Passed, answer-turned, answer-same, outcome-refused, outcome-gives, outcome-same, found-behind, answer-behind}
-use Rattle.lines.proofs.TextLaws.{whole-passes, numbers-length, valid-table}
+use Rattle.lines.proofs.TextLaws.{whole-passes, numbers-length}
 use Rattle.circuit.specs.Circuit.{maxTable, lineCount, maxLines}
 use Rattle.circuit.specs.Table.{encode}
 use Rattle.circuit.specs.Refusal.{refusal, circuitTable}
@@ -33,7 +33,7 @@ use Rattle.napspruce.specs.Front.{maxRulesLines, maxSitesLines, front}
 use Rattle.napspruce.specs.Theorems.{FrontIsListedAlike, CutIsListedAlike}
 use Rattle.napspruce.proofs.TextLaws.{accepted-text, cut-accepted, cut-read}
 use Rattle.napspruce.proofs.FrontLaws.{Alike, alike-number, circuit-alike, rules-alike, sites-alike}
-use Rattle.napspruce.proofs.ListingLaws.{listing-valid, circuit-length}
+use Rattle.napspruce.proofs.ListingLaws.{circuit-length}
 
 -- ---- of tables
 
@@ -84,7 +84,6 @@ listed-refused circuit rules sites result work verdicts pc pr ps room number tab
 pub record Rewrote (circuit rules sites table verdicts : List ℕ) (lines : ℕ) (s : Summary) : Type 0 where
   pub accepted : Passed (tableChecks circuit rules sites)
   pub numbers : listingLines (take (3 * lines) table) s (take (s .sites) verdicts) ≡ listingTable circuit rules sites
-  pub writable : isTable (listingTable circuit rules sites) ≡ true
   pub line-limit : lines ≤ maxLines
   pub site-limit : s .sites ≤ maxSites
 
@@ -110,7 +109,6 @@ rewrote circuit rules sites result work verdicts table rest given lines d₀ n�
     record {
       accepted = (a, (b, (c, tt)));
       numbers = ap₂ (λ x y. listingLines x y (take (siteCount sites) given)) circuitLines s ∙ ap (λ x. listingLines (encode final) (summaryOf circuit rules sites) x) verdictBytes;
-      writable = valid-table (listingTable circuit rules sites) _ (listing-valid circuit rules sites safe w ws);
       line-limit = omega (arith, l, limited-encoded final (safe .well-formed));
       site-limit = ws .count-limit;
     }

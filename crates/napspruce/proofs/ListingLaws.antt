@@ -32,7 +32,6 @@ use Rattle.rewriting.proofs.Theorems.{valid-encoded, limited-encoded}
 use Rattle.napspruce.specs.declared.numbers.Summary.{Summary}
 use Rattle.napspruce.specs.Listing.{verdictKind, summary, verdictLines, summaryOf, listingTable}
 use Rattle.napspruce.specs.ListingCall.{maxListing}
-use Rattle.napspruce.specs.Printed.{refusalKind}
 
 -- ---- those of a circuit
 
@@ -139,14 +138,3 @@ module _ (circuit rules sites : List ℕ) (safe : SafeRun circuit rules sites) w
           not-partial = whole-passes 3 listed (listingTable circuit rules sites) (omega arith) listing-length (omega arith);
           right = small-rows listed (listingTable circuit rules sites) small-listing;
         }
-
--- ---- a refusal's line
-
-pub refusal-valid : (number table : ℕ) → number ≤ 999999 → table ≤ 999999 → Valid 3 isRow (refusalKind ∷ number ∷ table ∷ []) 1
-refusal-valid number table h k =
-    let t = refusalKind ∷ number ∷ table ∷ [] in
-    record {
-      whole = record { count = refl; long = refl; some = omega arith };
-      not-partial = whole-passes 3 1 t (omega arith) refl (omega arith);
-      right = small-rows 1 t (small-line refusalKind number table [] (omega arith) h k tt);
-    }

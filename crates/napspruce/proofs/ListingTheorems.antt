@@ -1,7 +1,7 @@
 -- The theorems on the listing and on what the program prints. Assumes nothing.
 use mathlib.Core.Path.{_≡_, sym, ap, ap₂, _∙_}
 use mathlib.Core.List.{List, [], _∷_}
-use Prim.Native.Nat.{ℕ, _-_, _≤_}
+use Prim.Native.Nat.{ℕ, _≤_}
 use native.Mathlib.Omega.{arith}
 use lib.ListN.{length, getD}
 use Rattle.lines.specs.Refusal.{Result, refused, gives, leaving}
@@ -12,13 +12,11 @@ use Rattle.lines.proofs.CheckLaws.{answer-refused, answer-gives, answer-given, 
 use Rattle.lines.proofs.Theorems.{read-after-write}
 use Rattle.napspruce.specs.Listing.{listingTable, listingText}
 use Rattle.napspruce.specs.ListingCall.{maxListing, listChecks, listTexts, listingOutcome}
-use Rattle.napspruce.specs.Limits.{Within, listingLimits}
 use Rattle.napspruce.specs.Printed.{refusalKind, printedOf, printed}
 use Rattle.napspruce.specs.Theorems.{ListedIsSafe, ListedIsText, RefusalKeepsBuffer, ListingIsPrinted, RefusalIsPrinted, PrintedFits}
 use Rattle.napspruce.proofs.ListingLaws.{listing-valid}
 use Rattle.lines.proofs.TextLaws.{valid-table}
 use Rattle.napspruce.proofs.WriteLaws.{refusal-length}
-use Rattle.napspruce.proofs.LimitLaws.{listing-is-within}
 use Rattle.napspruce.proofs.KnownLaws.{Known, known-tables, known-texts, tables-given, room-passed, texts-room}
 
 -- ---- the listing
@@ -78,19 +76,12 @@ module _ (circuit rules sites buffer : List ℕ) where
       let (l, b) = listing-is-printed circuit rules sites buffer n (ap (λ o. o .answer) (sym q)) in
       (l, ap (λ o. o .buffers) q ∙ b)
 
-  module _ (number table : ℕ) (after : List ℕ) (q : leaving (refused number table) after ≡ listingOutcome circuit rules sites buffer) where
-    refused-result : listingOutcome circuit rules sites buffer .answer ≡ refused number table
-    refused-result = ap (λ o. o .answer) (sym q)
-
-    pub refused-small : (number ≤ 999999) × (table ≤ 999999)
-    refused-small =
-        let k : Within listingLimits (refused number table) = rw refused-result at (listing-is-within circuit rules sites buffer) in
-        (omega (arith, k), omega (arith, k))
-
-    pub printed-refusal : maxListing ≤ length buffer → (n : ℕ) (out : List ℕ) → n ≡ length (writeTable (refusalKind ∷ number ∷ table ∷ []))
-        → out ≡ over (writeTable (refusalKind ∷ number ∷ table ∷ [])) after
-        → (n ≡ length (printed circuit rules sites)) × (out ≡ over (printed circuit rules sites) buffer)
-    printed-refusal room n out l e =
-        let p = sym (refusal-is-printed circuit rules sites buffer number table room refused-result) in
-        let kept : after ≡ buffer = ap (λ o. o .buffers) q ∙ refusal-keeps-buffer circuit rules sites buffer number table refused-result in
-        (l ∙ ap length p, e ∙ ap₂ (λ x y. over x y) p kept)
+  pub printed-refusal : (number table : ℕ) (after : List ℕ) → leaving (refused number table) after ≡ listingOutcome circuit rules sites buffer
+      → maxListing ≤ length buffer → (n : ℕ) (out : List ℕ) → n ≡ length (writeTable (refusalKind ∷ number ∷ table ∷ []))
+      → out ≡ over (writeTable (refusalKind ∷ number ∷ table ∷ [])) after
+      → (n ≡ length (printed circuit rules sites)) × (out ≡ over (printed circuit rules sites) buffer)
+  printed-refusal number table after q room n out l e =
+      let r : listingOutcome circuit rules sites buffer .answer ≡ refused number table = ap (λ o. o .answer) (sym q) in
+      let p = sym (refusal-is-printed circuit rules sites buffer number table room r) in
+      let kept : after ≡ buffer = ap (λ o. o .buffers) q ∙ refusal-keeps-buffer circuit rules sites buffer number table r in
+      (l ∙ ap length p, e ∙ ap₂ (λ x y. over x y) p kept)

@@ -1,23 +1,23 @@
 -- Texts: their refusals, and the table that is read of a text's first lines. Assumes nothing.
 use mathlib.Core.Path.{_≡_, refl, sym, ap, _∙_}
 use mathlib.Core.Bool.{Bool, true, false, not}
-use mathlib.Core.List.{List, [], _∷_}
+use mathlib.Core.List.{List, [], _∷_, _++_}
 use Prim.Native.Nat.{ℕ, _+_, _*_, _/_, _≤_, _<_}
 use native.Mathlib.Decide.{decLt}
 use native.Mathlib.Omega.{arith}
 use lib.Dec.{ltb}
-use lib.ListN.{length, take}
+use lib.ListN.{length, take, drop}
 use lib.Seq.{take-all}
 use borrow.Author.Tests.{ltb-true, ltb-false}
 use Rattle.lists.specs.First.{first}
-use Rattle.lists.specs.Records.{allRecords}
-use Rattle.lines.specs.Line.{isLine}
+use Rattle.lists.specs.Records.{mapRecords, allRecords}
+use Rattle.lines.specs.Line.{isLine, readLine}
 use Rattle.lines.specs.Text.{readText}
-use Rattle.lines.specs.Refusal.{Result, refused, gives, leaving}
-use Rattle.lines.specs.Calls.{over, lineChecks, validation, validating, reading}
+use Rattle.lines.specs.Refusal.{refused, gives}
+use Rattle.lines.specs.Calls.{over, lineChecks, validation, validating}
 use Rattle.lines.proofs.CheckLaws.{check-passes, passed, none-found, answer-given, answer-turned}
 use Rattle.lines.proofs.CallLaws.{Valid, valid-passed}
-use Rattle.lines.proofs.TextLaws.{front-valid, front-reads, front-length, front-read, numbers-length}
+use Rattle.lines.proofs.TextLaws.{front-right, front-length, front-read, front-valid, front-reads, numbers-length}
 use Rattle.napspruce.specs.ListingCall.{textRefusal}
 use Rattle.napspruce.specs.Front.{front, cut}
 
@@ -67,22 +67,20 @@ module _ (most : ℕ) (text : List ℕ) (h : textRefusal text ≡ 0) where
 
 -- ---- reading at most `most` lines
 
-pub record FrontRead (text table after : List ℕ) (most count : ℕ) : Type 0 where
-  pub numbers : 3 * count ≡ length (take (3 * most) (readText text))
-  pub left : after ≡ over (take (3 * most) (readText text)) table
-
-module _ (text table : List ℕ) (most count : ℕ) (h : textRefusal text ≡ 0) (some : 1 ≤ most) (room : 3 * most ≤ length table)
-    (c : count ≡ first (ltb (length text / 19) most) (length text / 19) most) where
+module _ (text : List ℕ) (most count : ℕ) (h : textRefusal text ≡ 0) (c : count ≡ first (ltb (length text / 19) most) (length text / 19) most) where
   valid : Valid 19 isLine text (length text / 19)
   valid = accepted-text text h
 
-  pub front-count : (count ≤ most) × (count ≤ length text / 19) × (19 * count ≤ length text) × (0 < count)
-  front-count = go (ltb (length text / 19) most) refl c
+  fewer : (count ≤ most) × (count ≤ length text / 19)
+  fewer = go (ltb (length text / 19) most) refl c
     where
-      go : (b : Bool) → ltb (length text / 19) most ≡ b → count ≡ first b (length text / 19) most
-          → (count ≤ most) × (count ≤ length text / 19) × (19 * count ≤ length text) × (0 < count)
-      go true e q = let l : length text / 19 < most = ltb-true _ _ e in (omega arith, omega arith, omega (arith, valid .whole .long), omega (arith, valid .whole .some))
-      go false e q = let l : most ≤ length text / 19 = ltb-false _ _ e in (omega arith, omega arith, omega (arith, valid .whole .long), omega arith)
+      go : (b : Bool) → ltb (length text / 19) most ≡ b → count ≡ first b (length text / 19) most → (count ≤ most) × (count ≤ length text / 19)
+      go true e q = let l : length text / 19 < most = ltb-true _ _ e in (omega arith, omega arith)
+      go false e q = let l : most ≤ length text / 19 = ltb-false _ _ e in (omega arith, omega arith)
+
+  -- the lines that are read are there, and right
+  pub front-lines : (count ≤ most) × (19 * count ≤ length text) × (allRecords isLine 19 count text ≡ true)
+  front-lines = (fewer .0, omega (arith, fewer, valid .whole .long), front-right text _ valid count (fewer .1))
 
   front-same : take (3 * count) (readText text) ≡ take (3 * most) (readText text)
   front-same = go (ltb (length text / 19) most) refl c
@@ -95,10 +93,9 @@ module _ (text table : List ℕ) (most count : ℕ) (h : textRefusal text ≡ 0)
           take-all (3 * count) (readText text) (omega arith) ∙ sym (take-all (3 * most) (readText text) (omega arith))
       go false e q = ap (λ j. take (3 * j) (readText text)) q
 
-  pub front-is-read : (r : Result) (after : List ℕ) → leaving r after ≡ reading (take (19 * count) text) table → FrontRead text table after most count
-  front-is-read r after e =
-      let (a, b, d, s) = front-count in
-      record {
-        numbers = sym (ap length (sym front-same) ∙ front-length text _ valid count s b);
-        left = ap (λ o. o .buffers) e ∙ front-read text _ valid count s b table (omega arith) ∙ ap (λ x. over x table) front-same;
-      }
+  pub front-numbers : 3 * count ≡ length (take (3 * most) (readText text))
+  front-numbers = sym (ap length (sym front-same) ∙ front-length text _ valid count (fewer .1))
+
+  pub front-is-read : (table after : List ℕ) → after ≡ mapRecords readLine 19 count text ++ drop (3 * count) table
+      → after ≡ over (take (3 * most) (readText text)) table
+  front-is-read table after e = front-read text _ valid count (fewer .1) table after e ∙ ap (λ x. over x table) front-same

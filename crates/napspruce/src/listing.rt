@@ -1,12 +1,12 @@
 // The listing for three texts.
 ghost use mathlib.Core.Path.{_≡_};
-ghost use mathlib.Core.Bool.{true, false};
+ghost use mathlib.Core.Bool.{false};
 ghost use Prim.Native.Nat.{_+_, _*_, _≤_};
 ghost use lib.ListN.{length, take};
 ghost use Rattle.lines.specs.Calls.{over};
 ghost use Rattle.lines.specs.Refusal.{leaving};
 ghost use Rattle.lines.specs.Checks.{firstFound};
-ghost use Rattle.lines.specs.Text.{isPartial, isTable, readText, writeTable};
+ghost use Rattle.lines.specs.Text.{isPartial, readText, writeTable};
 ghost use Rattle.rules.specs.SiteTable.{maxSites};
 ghost use Rattle.napspruce.specs.Listing.{listingLines};
 ghost use Rattle.napspruce.specs.ListingCall.{paperValues as listedValues, maxListing, textRefusal, textChecks, tablesOutcome, listingOutcome};
@@ -21,6 +21,7 @@ use circuit::checked::MAX_LINES;
 use circuit::checked::MAX_TABLE;
 use lines::NO_TABLE;
 use lines::Refusal;
+use lines::checked::write_lines;
 use lines::refuse;
 use rewriting::Rewritten;
 use rewriting::rewrite;
@@ -64,7 +65,6 @@ fn write_listing(
     requires { ⌜ 3 * lines + 9 + 3 * s .sites ≤ length (now table) ⌝ }
     requires { ⌜ s .sites ≤ length (now verdicts) ⌝ }
     requires { ⌜ s .sites ≤ maxSites ⌝ }
-    requires { ⌜ isTable (listingLines (take (3 * lines) (now table)) s (take (s .sites) (now verdicts))) ≡ true ⌝ }
     requires { ⌜ 19 * (lines + 3 + s .sites) ≤ length (now listing) ⌝ }
     ensures { λ r. ⌜ r ≡ length (writeTable (listingLines (take (3 * lines) (now (table .entry))) s (take (s .sites) (now (verdicts .entry))))) ⌝ }
     ensures { λ _. ⌜ now (listing .exit) ≡ over
@@ -74,9 +74,9 @@ fn write_listing(
     let count = s.sites as usize;
     write_summary(table, at, s);
     write_verdicts(table, at + 9, verdicts, count);
-    let end = at + 9 + 3 * count;
-    lines::write(&table[..end], listing);
-    19 * (lines + 3 + count)
+    let rows = lines + 3 + count;
+    write_lines(table, listing, rows);
+    19 * rows
 }
 
 // Lists tables of whole lines, in a buffer that has room for any listing.

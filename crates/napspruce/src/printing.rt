@@ -10,19 +10,19 @@ use crate::listing::Listed;
 use crate::listing::MAX_LISTING;
 use crate::listing::list;
 use lines::Refusal;
+use lines::checked::write_lines;
 
 // What a refusal's line begins with.
 const REFUSAL: u32 = 9;
 
 // The line of a refusal over the front of the buffer. The result is how many bytes it has.
 fn write_refusal(refusal: Refusal, out: &mut [u8]) -> usize
-    requires { ⌜ (refusal .number ≤ 999999) × (refusal .table ≤ 999999) ⌝ }
     requires { ⌜ 19 ≤ length (now out) ⌝ }
     ensures { λ r. ⌜ r ≡ length (writeTable (refusalKind ∷ refusal .number ∷ refusal .table ∷ [])) ⌝ }
     ensures { λ _. ⌜ now (out .exit) ≡ over (writeTable (refusalKind ∷ refusal .number ∷ refusal .table ∷ [])) (now (out .entry)) ⌝ }
 {
     let line = [REFUSAL, refusal.number, refusal.table];
-    lines::write(&line, out);
+    write_lines(&line, out, 1);
     19
 }
 

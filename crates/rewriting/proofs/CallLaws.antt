@@ -2,23 +2,22 @@
 use mathlib.Core.Path.{_≡_, refl, ap, ap₂, _∙_}
 use mathlib.Core.Bool.{Bool, true, false, _||_, true≢false}
 use mathlib.Core.List.{List, [], _∷_}
-use mathlib.Core.Option.{none, some}
+use mathlib.Core.Option.{some}
 use Prim.Native.Nat.{ℕ, _≤_}
 use lib.Dec.{ltb}
 use lib.ListN.{length}
 use borrow.Author.Tests.{ltb-false}
 use Rattle.lines.specs.Refusal.{gives}
 use Rattle.lines.specs.Checks.{buffersAfter}
-use Rattle.lines.specs.Calls.{over}
 use Rattle.lines.proofs.CheckLaws.{answer-given}
 use Rattle.circuit.specs.Circuit.{maxTable, lineCount}
 use Rattle.circuit.specs.Critical.{pairOf}
-use Rattle.circuit.specs.Table.{decode, encode}
+use Rattle.circuit.specs.Table.{decode}
 use Rattle.circuit.specs.Refusal.{refusal}
 use Rattle.circuit.specs.declared.critical.DepthPair.{DepthPair}
 use Rattle.rules.specs.RuleRefusal.{rulesRefusal}
 use Rattle.rules.specs.SiteTable.{maxSites, sitesRefusal}
-use Rattle.rewriting.specs.Run.{finalState, allVerdicts}
+use Rattle.rewriting.specs.Run.{finalState}
 use Rattle.rewriting.specs.Theorems.{RefusalKeepsBuffers}
 use Rattle.rewriting.specs.RewriteCall.{Lent, lent, lentAfter, areShort, doneValues, rewriteChecks, rewriting}
 

@@ -1,5 +1,6 @@
 pub mod SpliceLaws
 pub mod ReplacementLaws
+pub mod DepthLaws
 pub mod PairLaws
 pub mod StepLaws
 pub mod RunLaws

@@ -4,16 +4,19 @@ use mathlib.Core.Bool.{Bool, true, false}
 use mathlib.Core.List.{List}
 use Prim.Native.Nat.{ℕ, _+_, _≤_, _<_}
 use native.Mathlib.Omega.{arith}
-use lib.ListN.{length, drop, getD}
-use borrow.Author.Tests.{eq-eqb, ne-eqb, lt-ltb, le-ltb}
+use lib.Dec.{eqb}
+use lib.ListN.{length, take, drop, getD}
+use lib.Seq.{take-take}
+use borrow.Author.Tests.{eqb-true, eq-eqb, ne-eqb, lt-ltb, le-ltb}
 use Rattle.lists.specs.First.{first}
 use Rattle.lists.proofs.First.{first-true, first-false}
 use Rattle.lists.proofs.Below.{below-element}
 use Rattle.lines.specs.Calls.{over}
 use Rattle.circuit.specs.Critical.{pairOf}
-use Rattle.circuit.specs.Circuit.{Circuit, maxGates, maxTable, lineCount}
+use Rattle.circuit.specs.Circuit.{Circuit, firstGate, references, maxGates, maxTable, lineCount}
+use Rattle.circuit.specs.Depth.{depths, circuitDepth}
 use Rattle.circuit.specs.Path.{isGate}
-use Rattle.circuit.specs.Table.{gates, decode, encode}
+use Rattle.circuit.specs.Table.{inputs, gates, refs, decode, encode}
 use Rattle.circuit.specs.Trim.{trim, trimOf}
 use Rattle.circuit.specs.WellFormed.{WellFormed}
 use Rattle.circuit.specs.declared.critical.DepthPair.{DepthPair}
@@ -22,12 +25,17 @@ use Rattle.circuit.proofs.ValidLaws.{Valid, valid-decode, limited-decode, well-
 use Rattle.circuit.proofs.EncodingLaws.{decode-after-encode, encode-after-decode}
 use Rattle.circuit.proofs.FrontLaws.{front-is, front-fits}
 use Rattle.circuit.proofs.TrimTheorems.{decode-trim, trimmed-is-well-formed}
-use Rattle.rules.specs.declared.SiteMatch.{SiteMatch}
+use Rattle.rules.specs.declared.judging.JudgedRule.{JudgedRule}
+use Rattle.rules.specs.Remembered.{judgedRule}
+use Rattle.rules.specs.Rule.{Rule}
 use Rattle.rules.specs.RuleTable.{rightsAt, rightFrom, ruleAt, placeOf, ruleOf}
 use Rattle.rules.specs.SiteTable.{Site, siteAt}
-use Rattle.rules.specs.Verdict.{passes, hasRule}
+use Rattle.rules.specs.Verdict.{SiteMatch, passes, hasRule, failing, givenWith, matchJudged}
 use Rattle.rules.specs.WellFormed.{WellFormedRule, WellFormedRules}
 use Rattle.rules.proofs.RefusalLaws.{rule-at-place}
+use Rattle.rules.proofs.VerdictLaws.{given-verdict}
+use Rattle.rules.proofs.JudgedLaws.{judged-place, site-judged}
+use Rattle.rules.proofs.SubstitutionLaws.{gate-from, gate-to}
 use Rattle.rules.proofs.VerdictTheorems.{site-zero}
 use Rattle.rewriting.specs.declared.run.Run.{Run}
 use Rattle.rewriting.specs.declared.run.Stepped.{Stepped}
@@ -35,10 +43,11 @@ use Rattle.rewriting.specs.Replacement.{replace, BoundBelow}
 use Rattle.rewriting.specs.Pair.{isLower}
 use Rattle.rewriting.specs.Verdict.{tooLarge, notLower, siteMatch, isTooLarge, replaced}
 use Rattle.rewriting.specs.Run.{State, Step, step, afterSites, verdictAt, verdictsOf}
-use Rattle.rewriting.specs.RunState.{tableOf, stateOf, stepOf, runPair, Held}
-use Rattle.rewriting.specs.StepParts.{matchWithin, settled, compared}
+use Rattle.rewriting.specs.RunState.{tableOf, stateOf, stepOf, runPair, Held, DepthsHeld}
+use Rattle.rewriting.specs.StepParts.{withinSize, matchWithin, settled, compared}
 use Rattle.rewriting.proofs.ReplacementLaws.{bound-below, matched-gate}
-use Rattle.rewriting.proofs.PairLaws.{trim-pair}
+use Rattle.rewriting.proofs.DepthLaws.{replaced-place, below-stays}
+use Rattle.rewriting.proofs.PairLaws.{not-lower, trim-pair}
 use Rattle.rewriting.proofs.StepLaws.{within-zero, matched, replaced-valid, replaced-limited, step-after, verdict-limit}
 use Rattle.rewriting.proofs.RunLaws.{after-more}
 
@@ -55,19 +64,36 @@ module _ (d t : List ℕ) (p : ℕ) where
   pub size-within : gates d + rightsAt t p ≤ maxGates + 1 → passes ≡ first (isTooLarge (decode d) (ruleAt t p)) tooLarge passes
   size-within h = sym (first-false tooLarge passes (le-ltb (maxGates + 1) (length (decode d .gates) + length (ruleAt t p .rights)) (omega (arith, h, sizes))))
 
-module _ (c : Circuit) (rules : List ℕ) (site : Site) (m : SiteMatch) (e : m ≡ siteMatch c rules site) where
-  -- the match's own verdict applies
-  pub within-unmatched : (m .verdict ≡ passes → ⊥) → m ≡ matchWithin c rules site
-  within-unmatched n = rw (← e, ne-eqb (m .verdict) passes n)
+-- v is the match's verdict, and b has its bindings if it is 0
+module _ (c : Circuit) (u : Rule) (m : SiteMatch) (b : List ℕ) (v : ℕ) (e : givenWith b v ≡ m) where
+  pub within-given : v ≡ m .verdict
+  within-given = sym (given-verdict b v) ∙ ap (λ (x : SiteMatch). x .verdict) e
 
-  module _ (z : m .verdict ≡ passes) where
-    pub within-rule : hasRule rules (site .rule) ≡ true
-    within-rule = site-zero c rules (site .rule) (site .gate) (site .mask) (ap (λ (x : SiteMatch). x .verdict) (sym e) ∙ z) .0
+  -- it applies
+  pub within-unmatched : (v ≡ passes → ⊥) → v ≡ withinSize c u m .verdict
+  within-unmatched n = rw (← within-given, ne-eqb v passes n)
 
-    -- else v says whether 5 does, of the rule at its place p
-    pub within-matched : (p : ℕ) → p ≡ placeOf rules (site .rule) → (v : ℕ) → v ≡ first (isTooLarge c (ruleAt rules p)) tooLarge passes
-        → record { verdict = v; bindings = m .bindings } ≡ matchWithin c rules site
-    within-matched p q v f = rw (← e, eq-eqb (m .verdict) passes z, ← q) (ap (λ x. record { verdict = x; bindings = m .bindings }) f)
+  -- else w says whether 5 does
+  module _ (z : v ≡ passes) where
+    pub within-matched : (w : ℕ) → w ≡ first (isTooLarge c u) tooLarge passes → w ≡ withinSize c u m .verdict
+    within-matched w f = rw (← within-given, eq-eqb v passes z) f
+
+    pub within-bound : b ≡ m .bindings
+    within-bound = ap (λ (x : SiteMatch). x .bindings) (sym (first-true (record { verdict = v; bindings = b }) (failing v) (eq-eqb v passes z)) ∙ e)
+
+-- j is what is known of the site's rule
+module _ (c : Circuit) (rules : List ℕ) (site : Site) (j : JudgedRule) (e : j ≡ judgedRule rules (site .rule)) where
+  pub within-judged : withinSize c (ruleAt rules (j .place)) (matchJudged c (ruleAt rules (j .place)) (j .verdict) (site .gate) (site .mask)) ≡ matchWithin c rules site
+  within-judged = ap (withinSize c (ruleAt rules (j .place))) (site-judged rules (site .rule) j e c (site .gate) (site .mask)) ∙ go (eqb (m .verdict) passes) refl
+    where
+      m : SiteMatch
+      m = siteMatch c rules site
+
+      go : (b : Bool) → eqb (m .verdict) passes ≡ b → withinSize c (ruleAt rules (j .place)) m ≡ withinSize c (ruleOf rules (site .rule)) m
+      go true h =
+          let has = site-zero c rules (site .rule) (site .gate) (site .mask) (eqb-true _ _ h) .0 in
+          ap (λ p. withinSize c (ruleAt rules p) m) (judged-place rules (site .rule) j e has)
+      go false h = rw h
 
 -- ---- replacement in the circuit of table t, where no verdict applies before it
 
@@ -79,8 +105,11 @@ module _ (t rules : List ℕ) (site : Site) (w : WellFormed t) (r : WellFormedRu
   fits : (siteMatch (decode t) rules site .verdict ≡ passes) × (isTooLarge (decode t) (ruleOf rules (site .rule)) ≡ false)
   fits = within-zero (decode t) rules site none
 
-  pub replacing-rule : hasRule rules (site .rule) ≡ true
+  replacing-rule : hasRule rules (site .rule) ≡ true
   replacing-rule = site-zero (decode t) rules (site .rule) (site .gate) (site .mask) (fits .0) .0
+
+  pub replacing-place : (j : JudgedRule) → j ≡ judgedRule rules (site .rule) → j .place ≡ placeOf rules (site .rule)
+  replacing-place j e = judged-place rules (site .rule) j e replacing-rule
 
   -- p is the rule's place
   module _ (p : ℕ) (q : p ≡ placeOf rules (site .rule)) where
@@ -110,9 +139,28 @@ module _ (t rules : List ℕ) (site : Site) (w : WellFormed t) (r : WellFormedRu
           (well-formed-encode (replaced (decode t) rules site) new-valid
           (replaced-limited (decode t) (valid-decode t w) rules r site (fits .0) (limited-decode t (w .sized)) (fits .1)))
 
+      decoded : decode x ≡ replaced (decode t) rules site
+      decoded = ap decode replaced-table ∙ decode-after-encode (replaced (decode t) rules site) (new-valid .kinds)
+
+      -- the gate's place is in it too, and what is below has the depths that it had
+      pub replaced-gate : (firstGate (inputs x) ≤ site .gate) × (site .gate ≤ refs x)
+      replaced-gate =
+          let e = replacing-asks .1 in
+          replaced-place (decode t) (ruleOf rules (site .rule)) (site .gate) (siteMatch (decode t) rules site .bindings)
+          (gate-from (decode t) (site .gate) e) (gate-to (decode t) (site .gate) e) x decoded
+
+      pub replaced-below : (current : List ℕ) → take (references (decode t)) current ≡ depths (decode t)
+          → take (site .gate) current ≡ take (site .gate) (depths (decode x))
+      replaced-below current h =
+          let e = replacing-asks .1 in
+          let hi = gate-to (decode t) (site .gate) e in
+          sym (take-take (site .gate) (references (decode t)) current (omega arith)) ∙ ap (take (site .gate)) h
+          ∙ sym (below-stays (decode t) (ruleOf rules (site .rule)) (site .gate) (siteMatch (decode t) rules site .bindings) (gate-from (decode t) (site .gate) e) hi)
+          ∙ ap (λ c. take (site .gate) (depths c)) (sym decoded)
+
       pub replaced-step : (kept : ℕ) → settled (record { circuit = decode t; kept = kept }) (decode x) ≡ step rules (record { circuit = decode t; kept = kept }) site
       replaced-step kept =
-          ap (settled (record { circuit = decode t; kept = kept })) (ap decode replaced-table ∙ decode-after-encode (replaced (decode t) rules site) (new-valid .kinds))
+          ap (settled (record { circuit = decode t; kept = kept })) decoded
           ∙ step-after rules (record { circuit = decode t; kept = kept }) site none (valid-decode t w) r
 
 -- ---- after it
@@ -122,8 +170,14 @@ module _ (t : List ℕ) (w : WellFormed t) (run : Run) (old work : List ℕ) (e 
   trimmed : tableOf run work ≡ trimOf t
   trimmed = front-is (trimOf t) old work e (run .end) n
 
-  pub trimmed-circuit : decode (tableOf run work) ≡ trim (decode t)
+  trimmed-circuit : decode (tableOf run work) ≡ trim (decode t)
   trimmed-circuit = ap decode trimmed ∙ decode-trim t w
+
+  pub trimmed-state : stateOf run work ≡ record { circuit = trim (decode t); kept = run .kept }
+  trimmed-state = ap {B = State} (λ c. record { circuit = c; kept = run .kept }) trimmed-circuit
+
+  pub trimmed-depths : (current : List ℕ) → take (references (trim (decode t))) current ≡ depths (trim (decode t)) → DepthsHeld run work current
+  trimmed-depths current h = ap (λ c. take (references c) current) trimmed-circuit ∙ h ∙ ap depths (sym trimmed-circuit)
 
   pub trimmed-held : maxTable ≤ length work → runPair run ≡ pairOf (decode t) → Held run work
   trimmed-held h p =
@@ -142,41 +196,54 @@ module _ (run : Run) (new : DepthPair) where
   pub compared-other : isLower new (runPair run) ≡ false → record { run = run; verdict = notLower } ≡ compared run new
   compared-other f = rw f
 
+-- the circuit of table t is deeper
+pub settled-deeper : (run : Run) (t work : List ℕ) → Held run work → run .depth < circuitDepth (decode t)
+    → stepOf (record { run = run; verdict = notLower }) work ≡ settled (stateOf run work) (decode t)
+settled-deeper run t work h k =
+    sym (first-false _ _ (not-lower (pairOf (decode t)) (pairOf (decode (tableOf run work))) (omega (arith, k, ap (λ (p : DepthPair). p .depth) (h .pair)))))
+
 -- x is what the compare gives, by the pair of the circuit of table t
 module _ (run : Run) (t work : List ℕ) (w : WellFormed t) (h : Held run work)
     (new : DepthPair) (p : new ≡ pairOf (decode t)) (x : Stepped) (q : x ≡ compared run new) where
   same-test : isLower new (runPair run) ≡ isLower (pairOf (decode t)) (pairOf (decode (tableOf run work)))
   same-test = ap₂ isLower p (h .pair)
 
-  pub settled-left : x .verdict ≡ notLower → (stepOf x work ≡ settled (stateOf run work) (decode t)) × Held (x .run) work
-  settled-left k = go (isLower new (runPair run)) refl
+  pub settled-left : x .verdict ≡ notLower → (current : List ℕ) → DepthsHeld run work current
+      → (stepOf x work ≡ settled (stateOf run work) (decode t)) × Held (x .run) work × DepthsHeld (x .run) work current
+  settled-left k current d = go (isLower new (runPair run)) refl
     where
-      go : (b : Bool) → isLower new (runPair run) ≡ b → (stepOf x work ≡ settled (stateOf run work) (decode t)) × Held (x .run) work
+      go : (b : Bool) → isLower new (runPair run) ≡ b
+          → (stepOf x work ≡ settled (stateOf run work) (decode t)) × Held (x .run) work × DepthsHeld (x .run) work current
       go true f =
           let zero : x .verdict ≡ passes = ap (λ (y : Stepped). y .verdict) (q ∙ sym (compared-lower run new f)) in
           let no-way : ⊥ = omega arith in
           absurd no-way
       go false f =
           let y = q ∙ sym (compared-other run new f) in
-          (rw (y, ← same-test, f), rw y h)
+          (rw (y, ← same-test, f), rw y h, rw y d)
 
-  -- the trimmed table was put into the working table, and ends at n
-  module _ (k : x .verdict ≡ notLower → ⊥) (work′ : List ℕ) (e : work′ ≡ over (trimOf t) work) (l : length work′ ≡ length work) (n : ℕ) (m : n ≡ length (trimOf t)) where
-    abbrev ended : Stepped → Stepped
-    ended y = record { run = record { end = n; depth = y .run .depth; critical = y .run .critical; kept = y .run .kept }; verdict = y .verdict }
-
-    pub settled-kept : (stepOf (ended x) work′ ≡ settled (stateOf run work) (decode t)) × Held (ended x .run) work′
-    settled-kept = go (isLower new (runPair run)) refl
+  -- it is kept, and `next` is the run once it is
+  module _ (k : x .verdict ≡ notLower → ⊥) where
+    lower : isLower new (runPair run) ≡ true
+    lower = go (isLower new (runPair run)) refl
       where
-        next : Run
-        next = record { end = n; depth = new .depth; critical = new .critical; kept = run .kept + 1 }
-
-        go : (b : Bool) → isLower new (runPair run) ≡ b → (stepOf (ended x) work′ ≡ settled (stateOf run work) (decode t)) × Held (ended x .run) work′
-        go true f =
-            let y = q ∙ sym (compared-lower run new f) in
-            let held : Held next work′ = trimmed-held t w next work work′ e m (omega (arith, l, h .room)) p in
-            (rw (y, ← same-test, f) (ap (λ c. record { next = record { circuit = c; kept = run .kept + 1 }; verdict = passes }) (trimmed-circuit t w next work work′ e m)), rw y held)
+        go : (b : Bool) → isLower new (runPair run) ≡ b → b ≡ true
+        go true f = refl
         go false f = absurd (k (ap (λ (y : Stepped). y .verdict) (q ∙ sym (compared-other run new f))))
+
+    stepped-on : x ≡ record { run = record { end = run .end; depth = new .depth; critical = new .critical; kept = run .kept + 1 }; verdict = passes }
+    stepped-on = q ∙ sym (compared-lower run new lower)
+
+    pub kept-pair : runPair (x .run) ≡ pairOf (decode t)
+    kept-pair = ap (λ (y : Stepped). runPair (y .run)) stepped-on ∙ p
+
+    pub settled-kept : (next : Run) (work′ : List ℕ) → stateOf next work′ ≡ record { circuit = trim (decode t); kept = x .run .kept }
+        → stepOf (record { run = next; verdict = x .verdict }) work′ ≡ settled (stateOf run work) (decode t)
+    settled-kept next work′ e =
+        ap₂ {C = Step} (λ n v. record { next = n; verdict = v })
+        (e ∙ ap {B = State} (λ (y : Stepped). record { circuit = trim (decode t); kept = y .run .kept }) stepped-on)
+        (ap (λ (y : Stepped). y .verdict) stepped-on)
+        ∙ sym (first-true _ _ (sym same-test ∙ lower))
 
 -- ---- the loop over the sites: x is the step of site i
 

@@ -4,8 +4,9 @@ use Prim.Native.Nat.{ℕ, _≤_}
 use mathlib.Core.Path.{_≡_}
 use mathlib.Core.List.{List}
 use lib.ListN.{length, take}
-use Rattle.circuit.specs.Circuit.{maxTable}
+use Rattle.circuit.specs.Circuit.{references, maxTable}
 use Rattle.circuit.specs.Critical.{pairOf}
+use Rattle.circuit.specs.Depth.{depths}
 use Rattle.circuit.specs.Table.{decode}
 use Rattle.circuit.specs.WellFormed.{WellFormed}
 use Rattle.circuit.specs.declared.critical.DepthPair.{DepthPair}
@@ -33,3 +34,8 @@ pub record Held (run : Run) (work : List ℕ) : Type 0 where
   pub table : WellFormed (tableOf run work)
   pub room : maxTable ≤ length work
   pub pair : runPair run ≡ pairOf (decode (tableOf run work))
+
+-- Beside it, `current` begins with the depths of the circuit as it then is: those below a site's gate stay in replacement (`below-stays`),
+-- so that only the others are worked out again. They can be made from the table at any time.
+abbrev pub DepthsHeld : Run → (work current : List ℕ) → Type 0
+DepthsHeld run work current = take (references (decode (tableOf run work))) current ≡ depths (decode (tableOf run work))

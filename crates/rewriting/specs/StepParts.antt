@@ -8,10 +8,10 @@ use Rattle.circuit.specs.Critical.{pairOf}
 use Rattle.circuit.specs.Circuit.{Circuit}
 use Rattle.circuit.specs.Trim.{trim}
 use Rattle.circuit.specs.declared.critical.DepthPair.{DepthPair}
-use Rattle.rules.specs.declared.SiteMatch.{SiteMatch}
+use Rattle.rules.specs.Rule.{Rule}
 use Rattle.rules.specs.RuleTable.{ruleOf}
 use Rattle.rules.specs.SiteTable.{Site}
-use Rattle.rules.specs.Verdict.{passes}
+use Rattle.rules.specs.Verdict.{SiteMatch, passes}
 use Rattle.rewriting.specs.declared.run.Run.{Run}
 use Rattle.rewriting.specs.declared.run.Stepped.{Stepped}
 use Rattle.rewriting.specs.Pair.{isLower}
@@ -19,15 +19,17 @@ use Rattle.rewriting.specs.Verdict.{tooLarge, notLower, siteMatch, isToo
 use Rattle.rewriting.specs.Run.{State, Step}
 use Rattle.rewriting.specs.RunState.{runPair}
 
+-- what the match says of a site of rule u, and 5 behind it
+abbrev pub withinSize : Circuit → (u : Rule) → SiteMatch → SiteMatch
+withinSize c u m =
+    record {
+      verdict = first (not (eqb (m .verdict) passes)) (m .verdict) (first (isTooLarge c u) tooLarge passes);
+      bindings = m .bindings;
+    }
+
 -- the first of the verdicts 1 to 5 that applies, else 0, with the bindings of the match
 abbrev pub matchWithin : Circuit → (rules : List ℕ) → Site → SiteMatch
-matchWithin c rules s =
-    record {
-      verdict =
-          first (not (eqb (siteMatch c rules s .verdict) passes)) (siteMatch c rules s .verdict)
-          (first (isTooLarge c (ruleOf rules (s .rule))) tooLarge passes);
-      bindings = siteMatch c rules s .bindings;
-    }
+matchWithin c rules s = withinSize c (ruleOf rules (s .rule)) (siteMatch c rules s)
 
 -- By the circuit after replacement: it is kept, trimmed, if its pair is lower, else 6. Its pair is that of the trimmed one
 -- (`PairBeforeTrim` in Theorems.antt).

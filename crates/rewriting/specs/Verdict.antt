@@ -8,11 +8,10 @@ use Rattle.lists.specs.First.{first}
 use Rattle.circuit.specs.Critical.{pairOf}
 use Rattle.circuit.specs.Circuit.{Circuit, maxGates}
 use Rattle.circuit.specs.Trim.{trim}
-use Rattle.rules.specs.declared.SiteMatch.{SiteMatch}
 use Rattle.rules.specs.Rule.{Rule}
 use Rattle.rules.specs.RuleTable.{ruleOf}
 use Rattle.rules.specs.SiteTable.{Site}
-use Rattle.rules.specs.Verdict.{passes, matchSite}
+use Rattle.rules.specs.Verdict.{SiteMatch, passes, matchSite}
 use Rattle.rewriting.specs.Replacement.{replace}
 use Rattle.rewriting.specs.Pair.{isLower}
 

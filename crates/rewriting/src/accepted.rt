@@ -12,10 +12,11 @@ ghost use Rattle.rules.specs.WellFormed.{WellFormedRules, WellFormedSites};
 ghost use Rattle.rewriting.specs.RewriteCall.{paperValues as rewrittenValues, areShort, doneValues};
 ghost use Rattle.rewriting.specs.Run.{handedBack, allVerdicts};
 use crate::Rewritten;
+use crate::copying::copy_over;
 use crate::run::Run;
 use crate::run::run_sites;
-use circuit::checked::pair;
-use circuit::checked::trim;
+use circuit::checked::MAX_REFERENCES;
+use circuit::checked::pair_with_reverse_depths;
 
 // A circuit's table over the front of `result`. What is given back is how many lines it has.
 fn copy_table(table: &[u32], result: &mut [u32]) -> u32
@@ -24,11 +25,8 @@ fn copy_table(table: &[u32], result: &mut [u32]) -> u32
     ensures { λ r. ⌜ r ≡ lineCount (decode (now (table .entry))) ⌝ }
     ensures { λ _. ⌜ now (result .exit) ≡ over (now (table .entry)) (now (result .entry)) ⌝ }
 {
-    let end = table.len();
-    for i in 0..end {
-        result[i] = table[i];
-    }
-    (end / 3) as u32
+    copy_over(table, result);
+    (table.len() / 3) as u32
 }
 
 // Trims the circuit into the working table, runs over the sites there, and hands back what they leave.
@@ -49,15 +47,27 @@ pub fn rewrite_accepted(
         (encode (handedBack (now (circuit .entry)) (now (rules .entry)) (now (sites .entry)))) (now (result .entry)) ⌝ }
     ensures { λ _. ⌜ now (verdicts .exit) ≡ over (allVerdicts (now (circuit .entry)) (now (rules .entry)) (now (sites .entry))) (now (verdicts .entry)) ⌝ }
 {
-    let old = pair(circuit);
-    let end = trim(circuit, work);
-    let start = Run {
-        end: end,
+    let mut depths = [0u32; MAX_REFERENCES];
+    let mut reverse = [0u32; MAX_REFERENCES];
+    let mut current = [0u32; MAX_REFERENCES];
+    let old = pair_with_reverse_depths(circuit, &mut depths, &mut reverse);
+    let first = Run {
+        end: 0,
         depth: old.depth,
         critical: old.critical,
         kept: 0,
     };
-    let run = run_sites(start, rules, sites, work, verdicts);
+    let start = first.keep(circuit, &mut depths, &reverse, &mut current, work);
+    let run = run_sites(
+        start,
+        rules,
+        sites,
+        &mut depths,
+        &mut reverse,
+        &mut current,
+        work,
+        verdicts,
+    );
     let end = run.end;
     let lines = copy_table(&work[..end], result);
     Rewritten::Done {

@@ -1,13 +1,15 @@
 pub mod WalkLaws
 pub mod LineLaws
 pub mod UseLaws
+pub mod WordLaws
+pub mod UseWordLaws
 pub mod RefusalLaws
 pub mod SiteLaws
-pub mod WordLaws
 pub mod SoundnessLaws
 pub mod SideLaws
 pub mod MatchLaws
 pub mod VerdictLaws
+pub mod JudgedLaws
 pub mod SubstitutionLaws
 pub mod ValueLaws
 pub mod CodingLaws

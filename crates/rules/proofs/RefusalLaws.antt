@@ -9,6 +9,7 @@ use lib.Dec.{eqb, ltb}
 use lib.ListN.{length, drop, getD}
 use borrow.Author.Tests.{eq-eqb, ne-eqb, eqb-true, eqb-false, ltb-true, not-false}
 use Rattle.lists.specs.First.{first}
+use Rattle.lists.proofs.First.{first-true}
 use Rattle.lists.proofs.Tests.{left-of, right-of}
 use Rattle.lines.specs.Text.{isPartial}
 use Rattle.circuit.specs.Circuit.{firstGate}
@@ -19,13 +20,13 @@ use Rattle.circuit.proofs.TableLaws.{lines-length}
 use Rattle.circuit.proofs.EachLaws.{all-each}
 use Rattle.circuit.proofs.ValidLaws.{ordered-of}
 use Rattle.circuit.proofs.RefusalLaws.{passed}
-use Rattle.rules.specs.RuleTable.{ruleCount, rulesFrom, holesAt, leftsAt, rightsAt, leftFrom, rightFrom, closingFrom, ruleAt, placeFrom, placeOf}
-use Rattle.rules.specs.RuleRefusal.{walkFromTop, ruleKindsOk, referencesOk, usesOk, rulesKindsOk, rulesReferencesOk, rulesUsesOk, rulesRefusal}
+use Rattle.rules.specs.RuleTable.{ruleCount, rulesFrom, holesAt, leftsAt, rightsAt, leftFrom, rightFrom, closingFrom, nextRule, ruleAt, placeFrom, placeOf}
+use Rattle.rules.specs.RuleRefusal.{rulesHeadInLimits, ruleInLimits, walk, walkFromTop, allRules, ruleKindsOk, referencesOk, usesOk, rulesKindsOk, rulesReferencesOk, rulesUsesOk, rulesRefusal}
 use Rattle.rules.specs.WellFormed.{RulesSized, WellFormedRule, ValidRule, WellFormedRules}
 use Rattle.rules.specs.Rule.{maxLeftReferences}
 use Rattle.rules.specs.Verdict.{hasRule}
 use Rattle.rules.specs.Theorems.{AcceptedRulesAreWellFormed, EachRuleIsWellFormed}
-use Rattle.rules.proofs.WalkLaws.{walk-end, rules-sized-of, walk-sized, walk-at, rules-at, rule-from, rule-to}
+use Rattle.rules.proofs.WalkLaws.{walk-pass, walk-all, walk-end, walk-top, rules-more, rules-none, rules-sized-of, walk-sized, walk-at, rules-at, rule-from, rule-to}
 use Rattle.rules.proofs.LineLaws.{operands-at, each-from}
 
 -- ---- whole lines
@@ -94,38 +95,60 @@ module _ (t : List ℕ) where
   unfolding rulesRefusal
   well-formed-rules-accepted w = rw (rules-whole (w .sized), walk-sized t (w .sized), w .kinds, w .references, w .uses)
 
-  -- ---- the refusal, test by test
+  -- ---- the refusal, as one walk finds it
 
   pub rules-partial : isPartial 3 t ≡ true → 1 ≡ rulesRefusal t
   unfolding rulesRefusal
   rules-partial e = rw e
 
-  module _ (w : isPartial 3 t ≡ false) where
-    pub rules-walk : (walkFromTop t ≡ 0 → ⊥) → walkFromTop t ≡ rulesRefusal t
-    unfolding rulesRefusal
-    rules-walk n = rw (w, ne-eqb (walkFromTop t) 0 n)
+  pub rules-walk : isPartial 3 t ≡ false → (walkFromTop t ≡ 0 → ⊥) → walkFromTop t ≡ rulesRefusal t
+  unfolding rulesRefusal
+  rules-walk w n = rw (w, ne-eqb (walkFromTop t) 0 n)
 
-    module _ (s : walkFromTop t ≡ 0) where
-      walk-passes : eqb (walkFromTop t) 0 ≡ true
-      walk-passes = eq-eqb (walkFromTop t) 0 s
+  -- With n rules left and the first at p: what the walk finds, else the lowest of 6, 7 and 8, where `kinds`, `references` and `uses` are how
+  -- the rules before p have fared.
+  unfoldable pub testedFrom : (n p : ℕ) (kinds references uses : Bool) → ℕ
+  testedFrom n p kinds references uses =
+      first (not (eqb (walk t n p) 0)) (walk t n p)
+      (first (not (kinds && allRules (ruleKindsOk t) t n p)) 6
+      (first (not (references && allRules (λ p. referencesOk (ruleAt t p)) t n p)) 7
+      (first (not (uses && allRules (λ p. usesOk (ruleAt t p)) t n p)) 8
+      0)))
 
-      pub rules-kinds : rulesKindsOk t ≡ false → 6 ≡ rulesRefusal t
-      unfolding rulesRefusal
-      rules-kinds e = rw (w, walk-passes, e)
+  pub tested-top : isPartial 3 t ≡ false → rulesHeadInLimits t ≡ true → testedFrom (ruleCount t) (rulesFrom t) true true true ≡ rulesRefusal t
+  unfolding rulesRefusal testedFrom
+  tested-top w h = rw (w, walk-top t h)
 
-      module _ (k : rulesKindsOk t ≡ true) where
-        pub rules-references : rulesReferencesOk t ≡ false → 7 ≡ rulesRefusal t
-        unfolding rulesRefusal
-        rules-references e = rw (w, walk-passes, k, e)
+  module _ (n p : ℕ) (k r u : Bool) where
+    pub tested-found : (x : ℕ) → 0 < x → walk t n p ≡ x → x ≡ testedFrom n p k r u
+    unfolding testedFrom
+    tested-found x h e = sym (first-true _ _ (ap not (ne-eqb (walk t n p) 0 (λ z. omega arith))) ∙ e)
 
-        module _ (r : rulesReferencesOk t ≡ true) where
-          pub rules-uses : rulesUsesOk t ≡ false → 8 ≡ rulesRefusal t
-          unfolding rulesRefusal
-          rules-uses e = rw (w, walk-passes, k, r, e)
+    pub tested-more : 0 < n → ruleInLimits t p ≡ true → nextRule t p ≤ length t → (q : ℕ) → q ≡ nextRule t p
+        → (k′ r′ u′ : Bool) → k′ ≡ (k && ruleKindsOk t p) → r′ ≡ (r && referencesOk (ruleAt t p)) → u′ ≡ (u && usesOk (ruleAt t p))
+        → testedFrom (n - 1) q k′ r′ u′ ≡ testedFrom n p k r u
+    unfolding testedFrom
+    tested-more h w l q e k′ r′ u′ ek er eu =
+        rw (
+          e,
+          ek,
+          er,
+          eu,
+          walk-pass t n p h (omega arith) w l,
+          rules-more (ruleKindsOk t) t k n p h,
+          rules-more (λ p. referencesOk (ruleAt t p)) t r n p h,
+          rules-more (λ p. usesOk (ruleAt t p)) t u n p h,
+        )
 
-          pub rules-accepted : rulesUsesOk t ≡ true → 0 ≡ rulesRefusal t
-          unfolding rulesRefusal
-          rules-accepted e = rw (w, walk-passes, k, r, e)
+    pub tested-end : n ≡ 0 → p ≡ length t → first (not k) 6 (first (not r) 7 (first (not u) 8 0)) ≡ testedFrom n p k r u
+    unfolding testedFrom
+    tested-end h e =
+        rw (
+          walk-all t n p h e,
+          rules-none (ruleKindsOk t) t k n p h,
+          rules-none (λ p. referencesOk (ruleAt t p)) t r n p h,
+          rules-none (λ p. usesOk (ruleAt t p)) t u n p h,
+        )
 
   -- ---- one rule
 

@@ -1,4 +1,4 @@
--- Whether a reference is used: loops that look for it, and that it is used by later gates only. Assumes nothing.
+-- Which references are used: by later gates only, and the holes and left gates that are to be used as one range. Assumes nothing.
 use mathlib.Core.Path.{_≡_, refl, sym, ap, ap₂, _∙_}
 use mathlib.Core.Bool.{true, false, _||_}
 use mathlib.Core.List.{List, [], _∷_}
@@ -6,7 +6,7 @@ use Prim.Native.Nat.{ℕ, zero, suc, _+_, _-_, _≤_, _<_}
 use native.Mathlib.Decide.{decLt}
 use native.Mathlib.Omega.{arith}
 use lib.Dec.{ltb}
-use lib.ListN.{length, drop, drop-of-length-le}
+use lib.ListN.{length, drop}
 use borrow.Author.Tests.{ltb-true, ne-eqb}
 use Rattle.lists.specs.Below.{allBelow}
 use Rattle.lists.proofs.Tests.{same-test, both, left-of, right-of}
@@ -18,20 +18,6 @@ use Rattle.circuit.specs.Refusal.{operandsBelow}
 use Rattle.rules.specs.Rule.{Rule}
 use Rattle.rules.specs.RuleRefusal.{holeUsed, leftUsed, usesOk}
 use Rattle.rules.specs.Theorems.{UseIsLater}
-
--- A loop that looks for a user of r and has come to gate i: it is none, it is one, or there is none.
-module _ (r : ℕ) (gs : List Gate) (i : ℕ) (inv : isUsed r (drop i gs) ≡ isUsed r gs) where
-  pub used-pass : (g : Gate) → drop i gs ≡ g ∷ drop (i + 1) gs → isOperand r g ≡ false → isUsed r (drop (i + 1) gs) ≡ isUsed r gs
-  unfolding isUsed
-  used-pass g e off = rw (e, off) at inv
-
-  pub used-hit : (g : Gate) → drop i gs ≡ g ∷ drop (i + 1) gs → isOperand r g ≡ true → true ≡ isUsed r gs
-  unfolding isUsed
-  used-hit g e on = rw (e, on) at inv
-
-  pub used-end : length gs ≤ i → false ≡ isUsed r gs
-  unfolding isUsed
-  used-end h = rw (drop-of-length-le gs h) at inv
 
 -- a gate's operands lie below it
 not-used : (m r : ℕ) (g : Gate) → operandsBelow m g ≡ true → m ≤ r → isOperand r g ≡ false

@@ -1,24 +1,24 @@
 -- Verdicts by the tests that apply, what a reference is, and what a site's match says. Assumes nothing.
 use mathlib.Core.Path.{_≡_, refl, sym, ap, _∙_}
 use mathlib.Core.Bool.{Bool, true, false, not}
-use mathlib.Core.List.{List, _∷_}
-use mathlib.Core.Option.{some}
+use mathlib.Core.List.{List}
+use mathlib.Core.Option.{Option, none, some}
 use Prim.Native.Nat.{ℕ, _+_, _-_, _/_, _^_, _≤_, _<_}
 use native.Mathlib.Decide.{decLt}
 use native.Mathlib.Omega.{arith}
 use lib.Dec.{eqb}
-use lib.ListN.{length, drop, set, replicate}
+use lib.ListN.{length, drop, set}
 use borrow.Author.Tests.{eq-eqb, ne-eqb, lt-ltb, le-ltb}
 use Rattle.lists.specs.First.{first}
 use Rattle.lists.proofs.First.{first-true, first-false, first-either}
 use Rattle.circuit.specs.Circuit.{Circuit, constants, firstGate, references}
 use Rattle.circuit.specs.Path.{isGate}
 use Rattle.rules.specs.declared.ReferenceKind.the-variants.{Constant, Input, Gate, Beyond}
-use Rattle.rules.specs.Rule.{Rule, maxLeftReferences}
-use Rattle.rules.specs.RuleTable.{holesAt, leftsAt, leftFrom, ruleAt, placeOf, ruleOf}
+use Rattle.rules.specs.Rule.{Rule}
+use Rattle.rules.specs.RuleTable.{holesAt, leftsAt, leftFrom, ruleAt, ruleOf}
 use Rattle.rules.specs.Soundness.{isSound}
-use Rattle.rules.specs.Match.{matchGates, matchRule, attempt}
-use Rattle.rules.specs.Verdict.{passes, noRule, notSound, notAGate, noMatch, hasRule, judgement, kindOf, kindVerdict, failing, verdictBy, matchAt, matchSite, matchJudged}
+use Rattle.rules.specs.Match.{unbound, matchGates, matchRule, attempt}
+use Rattle.rules.specs.Verdict.{SiteMatch, passes, notSound, notAGate, noMatch, hasRule, kindOf, kindVerdict, failing, givenWith, verdictBy, matchAt, matchSite, matchJudged}
 use Rattle.rules.specs.Theorems.{KindAsksForGate}
 use Rattle.circuit.proofs.TableLaws.{lines-length}
 use Rattle.rules.proofs.MatchLaws.{is-gate, gate-low, gate-high, match-start}
@@ -98,9 +98,9 @@ module _ (c : Circuit) (u : Rule) (gate mask j v : ℕ) (e : v ≡ first (eqb j 
   pub judged-at : v ≡ passes → matchAt c u gate mask ≡ matchJudged c u j gate mask
   judged-at z = rw (none-before z, at-gate z)
 
-  -- one of them applies
-  pub judged-failing : (v ≡ passes → ⊥) → failing v ≡ matchJudged c u j gate mask
-  judged-failing n = go (eqb j passes) refl (isGate c gate) refl
+  -- one of them applies, and b is of no use
+  pub judged-failing : (b : List ℕ) → (v ≡ passes → ⊥) → givenWith b v ≡ matchJudged c u j gate mask
+  judged-failing b n = first-false _ _ (ne-eqb v passes n) ∙ go (eqb j passes) refl (isGate c gate) refl
     where
       go : (a : Bool) → eqb j passes ≡ a → (b : Bool) → isGate c gate ≡ b
           → failing v ≡ matchJudged c u j gate mask
@@ -108,68 +108,56 @@ module _ (c : Circuit) (u : Rule) (gate mask j v : ℕ) (e : v ≡ first (eqb j 
       go true h true k = absurd (n (of-kind h ∙ first-false notAGate passes (ap not k)))
       go true h false k = rw (h, k) (ap failing (of-kind h ∙ first-true notAGate passes (ap not k)))
 
--- ---- the judge
-
-module _ (t : List ℕ) (rule : ℕ) where
-  pub judged-missing : hasRule t rule ≡ false → noRule ≡ judgement t rule
-  unfolding judgement
-  judged-missing h = rw h
-
-  -- p is where the rule begins
-  pub judged-there : hasRule t rule ≡ true → (p : ℕ) → p ≡ placeOf t rule → first (not (isSound (ruleAt t p))) notSound passes ≡ judgement t rule
-  unfolding judgement
-  judged-there h p e = rw (h, e)
-
-pub soundness-small : (u : Rule) (j : ℕ) → j ≡ first (not (isSound u)) notSound passes → j ≤ notSound
-soundness-small u j e = rw e (first-either (λ x. x ≤ notSound) (not (isSound u)) (omega arith) (omega arith))
-
 -- ---- the match
+
+pub given-verdict : (b : List ℕ) (v : ℕ) → givenWith b v .verdict ≡ v
+given-verdict b v = go (eqb v passes)
+  where
+    go : (x : Bool) → first x (record { verdict = v; bindings = b }) (failing v) .verdict ≡ v
+    go true = refl
+    go false = refl
 
 module _ (c : Circuit) (u : Rule) (gate mask : ℕ) where
   beyond : (mask / 2 ^ length (u .lefts) ≡ 0 → ⊥) → failing noMatch ≡ matchAt c u gate mask
   unfolding matchAt
   beyond h = rw (ne-eqb (mask / 2 ^ length (u .lefts)) 0 h)
 
+  pub at-small : matchAt c u gate mask .verdict ≤ noMatch
+  unfolding matchAt
+  at-small = first-either (λ (m : SiteMatch). m .verdict ≤ noMatch) (not (eqb (mask / 2 ^ length (u .lefts)) 0)) (omega arith) (go (matchRule c u gate mask))
+    where
+      go : (o : Option (List ℕ)) → verdictBy o .verdict ≤ noMatch
+      go none = omega arith
+      go (some b) = omega arith
+
   pub mask-within : mask / 2 ^ length (u .lefts) ≡ 0 → verdictBy (matchRule c u gate mask) ≡ matchAt c u gate mask
   unfolding matchAt
   mask-within h = rw (eq-eqb (mask / 2 ^ length (u .lefts)) 0 h)
 
--- of the rule at number p of a table: x and b are what the loop over its left gates left, from the bindings of the start on
+-- of the rule at number p of a table: x and b are what the loop over its left gates left, from the bindings of the start on, which were
+-- made where nothing was bound
 module _ (c : Circuit) (t : List ℕ) (p gate mask : ℕ) where
   count : length (ruleAt t p .lefts) ≡ leftsAt t p
   count = lines-length (leftsAt t p) (drop (leftFrom t p) t)
 
-  pub at-beyond : (mask / 2 ^ leftsAt t p ≡ 0 → ⊥) → failing noMatch ≡ matchAt c (ruleAt t p) gate mask
-  at-beyond h = beyond c (ruleAt t p) gate mask (λ e. h (ap (λ k. mask / 2 ^ k) (sym count) ∙ e))
+  pub at-beyond : (b : List ℕ) → (mask / 2 ^ leftsAt t p ≡ 0 → ⊥) → givenWith b noMatch ≡ matchAt c (ruleAt t p) gate mask
+  at-beyond b h = beyond c (ruleAt t p) gate mask (λ e. h (ap (λ k. mask / 2 ^ k) (sym count) ∙ e))
 
-  module _ (x : Bool) (b : List ℕ) (h : mask / 2 ^ leftsAt t p ≡ 0)
-      (e : attempt x b ≡ matchGates c (ruleAt t p) mask (leftsAt t p) (set (1 ∷ 2 ∷ replicate (maxLeftReferences - 2) 0) (firstGate (holesAt t p) + leftsAt t p - 1) (gate + 1))) where
+  module _ (b₀ : List ℕ) (z : b₀ ≡ unbound) (x : Bool) (b : List ℕ) (h : mask / 2 ^ leftsAt t p ≡ 0)
+      (e : attempt x b ≡ matchGates c (ruleAt t p) mask (leftsAt t p) (set (set (set b₀ 0 1) 1 2) (firstGate (holesAt t p) + leftsAt t p - 1) (gate + 1))) where
     at-found : verdictBy (attempt x b) ≡ matchAt c (ruleAt t p) gate mask
-    at-found = ap verdictBy (e ∙ match-start c t p gate mask) ∙ mask-within c (ruleAt t p) gate mask (ap (λ k. mask / 2 ^ k) count ∙ h)
+    at-found =
+        ap verdictBy
+        (e ∙ ap (λ d. matchGates c (ruleAt t p) mask (leftsAt t p) (set (set (set d 0 1) 1 2) (firstGate (holesAt t p) + leftsAt t p - 1) (gate + 1))) z ∙ match-start c t p gate mask)
+        ∙ mask-within c (ruleAt t p) gate mask (ap (λ k. mask / 2 ^ k) count ∙ h)
 
-    pub at-some : x ≡ true → verdictBy (some b) ≡ matchAt c (ruleAt t p) gate mask
+    pub at-some : x ≡ true → givenWith b passes ≡ matchAt c (ruleAt t p) gate mask
     at-some q = ap (λ y. verdictBy (attempt y b)) (sym q) ∙ at-found
 
-    pub at-none : x ≡ false → failing noMatch ≡ matchAt c (ruleAt t p) gate mask
+    pub at-none : x ≡ false → givenWith b noMatch ≡ matchAt c (ruleAt t p) gate mask
     at-none q = ap (λ y. verdictBy (attempt y b)) (sym q) ∙ at-found
 
 module _ (c : Circuit) (t : List ℕ) (rule gate mask : ℕ) where
-  pub site-missing : hasRule t rule ≡ false → failing noRule ≡ matchSite c t rule gate mask
-  unfolding matchSite
-  site-missing h = rw h
-
   pub site-at : hasRule t rule ≡ true → isSound (ruleOf t rule) ≡ true → isGate c gate ≡ true → matchAt c (ruleOf t rule) gate mask ≡ matchSite c t rule gate mask
   unfolding matchSite
   site-at h k g = rw (h, k, g)
-
-  -- p is where the rule begins, and j the judge's verdict
-  pub site-there : hasRule t rule ≡ true → (p : ℕ) → p ≡ placeOf t rule → (j : ℕ) → j ≡ first (not (isSound (ruleAt t p))) notSound passes
-      → matchJudged c (ruleAt t p) j gate mask ≡ matchSite c t rule gate mask
-  unfolding matchSite
-  site-there h p e j f = rw (h, f, e) (go (isSound (ruleOf t rule)))
-    where
-      go : (b : Bool)
-          → matchJudged c (ruleOf t rule) (first (not b) notSound passes) gate mask
-          ≡ first (not b) (failing notSound) (first (not (isGate c gate)) (failing notAGate) (matchAt c (ruleOf t rule) gate mask))
-      go true = refl
-      go false = refl

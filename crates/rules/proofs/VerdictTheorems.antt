@@ -18,17 +18,16 @@ use Rattle.circuit.specs.Trim.{trim}
 use Rattle.circuit.proofs.EachLaws.{each-at}
 use Rattle.circuit.proofs.ValidLaws.{valid-decode}
 use Rattle.circuit.proofs.TrimLaws.{trim-live}
-use Rattle.rules.specs.declared.SiteMatch.{SiteMatch}
 use Rattle.rules.specs.Rule.{Rule}
 use Rattle.rules.specs.RuleTable.{ruleOf}
 use Rattle.rules.specs.Soundness.{isSound}
 use Rattle.rules.specs.Match.{boundTo, matchRule}
-use Rattle.rules.specs.Verdict.{passes, notSound, noMatch, hasRule, judgement, failing, verdictBy, matchAt, matchSite}
+use Rattle.rules.specs.Verdict.{SiteMatch, passes, notSound, noMatch, hasRule, judgement, failing, verdictBy, matchAt, matchSite}
 use Rattle.rules.specs.Theorems.{BoundGatesAreLive, ZeroIsMatch, MatchIsZero, VerdictsAreSmall}
 use Rattle.rules.proofs.RefusalLaws.{each-rule-is-well-formed}
 use Rattle.rules.proofs.SubstitutionLaws.{gate-from, gate-to, match-gives-substitution}
 use Rattle.rules.proofs.FindingLaws.{substitution-is-found}
-use Rattle.rules.proofs.VerdictLaws.{mask-within, site-at}
+use Rattle.rules.proofs.VerdictLaws.{at-small, mask-within, site-at}
 
 pub bound-gates-are-live : BoundGatesAreLive
 bound-gates-are-live t w u gate mask b s i h =
@@ -90,18 +89,13 @@ match-is-zero c t w rule gate mask b h s g within sub =
 
 -- ---- bounds
 
-found-small : (o : Option (List ℕ)) → verdictBy o .verdict ≤ noMatch
-found-small none = omega arith
-found-small (some b) = omega arith
-
 pub verdicts-are-small : VerdictsAreSmall
-unfolding judgement matchSite matchAt
+unfolding judgement matchSite
 verdicts-are-small c t rule gate mask = (
   first-either (λ v. v ≤ notSound) (not (hasRule t rule)) (omega arith) (first-either (λ v. v ≤ notSound) (not (isSound (ruleOf t rule))) (omega arith) (omega arith)),
   first-either small (not (hasRule t rule)) (omega arith)
       (first-either small (not (isSound (ruleOf t rule))) (omega arith)
-      (first-either small (not (isGate c gate)) (omega arith)
-      (first-either small (not (eqb (mask / 2 ^ length (ruleOf t rule .lefts)) 0)) (omega arith) (found-small (matchRule c (ruleOf t rule) gate mask))))),
+      (first-either small (not (isGate c gate)) (omega arith) (at-small c (ruleOf t rule) gate mask))),
 )
   where
     small : SiteMatch → Type 0

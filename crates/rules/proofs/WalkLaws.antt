@@ -1,6 +1,6 @@
 -- The walk through a rules table: its steps, where each rule begins, and what is known of every rule after 0. Assumes nothing.
 use mathlib.Core.Path.{_≡_, refl, sym, ap, _∙_}
-use mathlib.Core.Bool.{Bool, true, false, not, _&&_}
+use mathlib.Core.Bool.{Bool, true, false, not, _&&_, and-true, and-assoc}
 use mathlib.Core.List.{List}
 use Prim.Native.Nat.{ℕ, zero, suc, _+_, _-_, _≤_, _<_}
 use native.Mathlib.Nat.{not-suc-le-zero, le-of-suc-le-suc}
@@ -44,6 +44,17 @@ module _ (t : List ℕ) where
         rights-limit = leb-true _ _ (right-of c d h2);
       }
 
+  pub sized-of : (p : ℕ) → ruleInLimits t p ≡ true → nextRule t p ≤ length t → RuleSized t p
+  sized-of p h long =
+      let l = limited-of p h in
+      record {
+        holes-limit = l .holes-limit;
+        lefts-some = l .lefts-some;
+        lefts-limit = l .lefts-limit;
+        rights-limit = l .rights-limit;
+        long = long;
+      }
+
   -- ---- a loop that walks, with n rules left and the first at p
 
   pub walk-short : (n p : ℕ) → 0 < n → length t < p + 3 → walk t n p ≡ 5
@@ -84,16 +95,7 @@ module _ (t : List ℕ) where
       let a = passed (ltb (length t) (p + 3)) 4 _ w in
       let b = passed (not (ruleInLimits t p)) 3 _ (a .1) in
       let c = passed (ltb (length t) (nextRule t p)) 4 _ (b .1) in
-      let l = limited-of p (not-false (ruleInLimits t p) (b .0)) in (
-        record {
-          holes-limit = l .holes-limit;
-          lefts-some = l .lefts-some;
-          lefts-limit = l .lefts-limit;
-          rights-limit = l .rights-limit;
-          long = ltb-false (length t) (nextRule t p) (c .0);
-        },
-        ap (λ i. walk t i (nextRule t p)) (one-less n) ∙ c .1,
-      )
+      (sized-of p (not-false (ruleInLimits t p) (b .0)) (ltb-false (length t) (nextRule t p) (c .0)), ap (λ i. walk t i (nextRule t p)) (one-less n) ∙ c .1)
 
   -- ---- places
 
@@ -174,21 +176,17 @@ module _ (t : List ℕ) where
   pub has-rule : (rule : ℕ) → 1 ≤ rule → rule ≤ ruleCount t → hasRule t rule ≡ true
   has-rule rule h k = both {a = leb 1 rule} (le-leb 1 rule h) (le-leb rule (ruleCount t) k)
 
--- A loop that tests all rules, with n rules left and the first at p; and a test that all pass, at one of them.
+-- A loop that tests all rules, with n rules left and the first at p, where `so-far` is how those before it have fared; and a test that all
+-- pass, at one of them.
 module _ (test : ℕ → Bool) (t : List ℕ) where
-  pub rules-pass : (n p : ℕ) → 0 < n → test p ≡ true → allRules test t (n - 1) (nextRule t p) ≡ allRules test t n p
+  pub rules-more : (so-far : Bool) (n p : ℕ) → 0 < n → so-far && test p && allRules test t (n - 1) (nextRule t p) ≡ so-far && allRules test t n p
   unfolding allRules
-  rules-pass zero p h e = absurd (not-suc-le-zero h)
-  rules-pass (suc n) p h e = rw (one-less n, e)
+  rules-more b zero p h = absurd (not-suc-le-zero h)
+  rules-more b (suc n) p h = ap (λ i. b && test p && allRules test t i (nextRule t p)) (one-less n) ∙ and-assoc b (test p) (allRules test t n (nextRule t p))
 
-  pub rules-fail : (n p : ℕ) → 0 < n → test p ≡ false → false ≡ allRules test t n p
+  pub rules-none : (so-far : Bool) (n p : ℕ) → n ≡ 0 → so-far && allRules test t n p ≡ so-far
   unfolding allRules
-  rules-fail zero p h e = absurd (not-suc-le-zero h)
-  rules-fail (suc n) p h e = rw e
-
-  pub rules-none : (n p : ℕ) → n ≡ 0 → true ≡ allRules test t n p
-  unfolding allRules
-  rules-none n p e = rw e
+  rules-none b n p e = rw e (and-true b)
 
   pub rules-at : (n p k : ℕ) → k < n → allRules test t n p ≡ true → test (placeFrom t p k) ≡ true
   unfolding allRules placeFrom

@@ -22,7 +22,7 @@ bit-lt i x = omega arith
 pub bit-zero : (i : ℕ) → bit i 0 ≡ 0
 bit-zero i = rw zero-div
 
-bit-suc : (i x : ℕ) → bit (suc i) x ≡ bit i (x / 2)
+pub bit-suc : (i x : ℕ) → bit (suc i) x ≡ bit i (x / 2)
 bit-suc i x =
     let e : 1 + i ≡ suc i = omega arith in
     ap (λ y. y % 2) (ap (λ k. x / 2 ^ k) (sym e) ∙ sym (shr-shr x 1 i))

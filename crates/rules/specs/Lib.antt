@@ -5,9 +5,11 @@ pub mod SiteTable
 pub mod WellFormed
 pub mod Soundness
 pub mod Words
+pub mod UseWord
 pub mod Match
 pub mod Substitution
 pub mod Verdict
+pub mod Remembered
 pub mod JudgeCall
 pub mod MatchCall
 pub mod Theorems

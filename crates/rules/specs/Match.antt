@@ -62,9 +62,13 @@ matchGates c u mask zero b = some b
 matchGates c u mask (suc i) b =
     bind (matchGate c (firstGate (u .holes) + i) (getD (u .lefts) i noGate) (isSwapped mask i) b) (matchGates c u mask i)
 
+-- nothing is bound
+abbrev pub unbound : List ℕ
+unbound = replicate maxLeftReferences 0
+
 -- 01, Sites, 5: at the start the last left gate is bound to the site's gate; the constants are bound to themselves.
 abbrev pub startBindings : Rule → (gate : ℕ) → List ℕ
-startBindings u gate = bindTo (root u) gate (bindTo 1 1 (bindTo 0 0 (replicate maxLeftReferences 0)))
+startBindings u gate = bindTo (root u) gate (bindTo 1 1 (bindTo 0 0 unbound))
 
 -- the match: its bindings, or none
 unfoldable pub matchRule : Circuit → Rule → (gate mask : ℕ) → Option (List ℕ)

@@ -4,17 +4,16 @@ use mathlib.Core.Bool.{Bool, not, _&&_}
 use mathlib.Core.List.{List}
 use mathlib.Core.Option.{Option, none, some}
 use lib.Dec.{eqb, leb, ltb}
-use lib.ListN.{length, replicate}
+use lib.ListN.{length}
 use Rattle.lists.specs.First.{first}
 use Rattle.circuit.specs.Circuit.{Circuit, constants, firstGate, references}
 use Rattle.circuit.specs.Path.{isGate}
-use Rattle.rules.specs.declared.SiteMatch.{SiteMatch}
 use Rattle.rules.specs.declared.ReferenceKind.{ReferenceKind}
 use Rattle.rules.specs.declared.ReferenceKind.the-variants.{Constant, Input, Gate, Beyond}
-use Rattle.rules.specs.Rule.{Rule, maxLeftReferences}
+use Rattle.rules.specs.Rule.{Rule}
 use Rattle.rules.specs.RuleTable.{ruleCount, ruleOf}
 use Rattle.rules.specs.Soundness.{isSound}
-use Rattle.rules.specs.Match.{matchRule}
+use Rattle.rules.specs.Match.{unbound, matchRule}
 
 -- the verdicts by their numbers, and 0 where none of them applies
 abbrev pub passes : ℕ
@@ -58,13 +57,22 @@ kindVerdict Input = notAGate
 kindVerdict Gate = passes
 kindVerdict Beyond = notAGate
 
+-- a verdict from 0 to 4, and the bindings of the match if it is 0; else zeros
+pub record SiteMatch : Type 0 where
+  pub verdict : ℕ
+  pub bindings : List ℕ
+
 -- a verdict that applies, and the one by the bindings of a match, or by none
 abbrev pub failing : (verdict : ℕ) → SiteMatch
-failing v = record { verdict = v; bindings = replicate maxLeftReferences 0 }
+failing v = record { verdict = v; bindings = unbound }
 
 abbrev pub verdictBy : Option (List ℕ) → SiteMatch
 verdictBy none = failing noMatch
 verdictBy (some b) = record { verdict = passes; bindings = b }
+
+-- a verdict as it was given, where `b` has the bindings if it is 0, and else is of no more use
+abbrev pub givenWith : (b : List ℕ) (verdict : ℕ) → SiteMatch
+givenWith b v = first (eqb v passes) (record { verdict = v; bindings = b }) (failing v)
 
 -- 4 or 0, of a sound rule at a gate: 4 also for a mask bit beyond the left gates
 unfoldable pub matchAt : Circuit → Rule → (gate mask : ℕ) → SiteMatch

@@ -1,18 +1,21 @@
-// The refusals of tables of rules and sites, and their tests in the order of 01's refusals 4 to 8. Each test is true if the refusal does
-// not apply; the walk gives the refusal's number.
+// The refusals of tables of rules and sites, and their tests; those of rules in one walk. Each test is true if the refusal does not apply;
+// the walk gives the refusal's number.
 ghost use mathlib.Core.Path.{_≡_};
-ghost use Prim.Native.Nat.{_+_, _*_, _≤_};
+ghost use mathlib.Core.Bool.{false, not, _&&_};
+ghost use Prim.Native.Nat.{_+_, _*_, _≤_, _<_};
 ghost use lib.ListN.{length, drop};
-ghost use Rattle.circuit.specs.Path.{isUsed};
-ghost use Rattle.circuit.specs.Circuit.{firstGate};
+ghost use Rattle.lists.specs.First.{first};
+ghost use Rattle.lines.specs.Text.{isPartial};
+ghost use Rattle.circuit.specs.Circuit.{constants};
 ghost use Rattle.circuit.specs.Each.{allGates};
 ghost use Rattle.circuit.specs.Refusal.{hasGateKind, operandsBelow};
 ghost use Rattle.circuit.specs.Table.{linesOf};
 ghost use Rattle.rules.specs.Rule.{maxLeftReferences};
-ghost use Rattle.rules.specs.RuleRefusal.{rulesHeadInLimits, ruleInLimits, walkFromTop, ruleKindsOk, referencesOk, usesOk, rulesKindsOk, rulesReferencesOk, rulesUsesOk, rulesRefusal};
+ghost use Rattle.rules.specs.RuleRefusal.{rulesHeadInLimits, ruleInLimits, ruleKindsOk, referencesOk, usesOk, rulesRefusal};
 ghost use Rattle.rules.specs.RuleTable.{ruleAt};
 ghost use Rattle.rules.specs.SiteTable.{sitesHeadInLimits, sitesAsHeadSays, sitesRefusal};
-ghost use Rattle.rules.specs.WellFormed.{RuleSized, RulesSized};
+ghost use Rattle.rules.specs.UseWord.{wordBits, mark, MarksUses, owed};
+ghost use Rattle.rules.specs.WellFormed.{RuleSized};
 use crate::table::MAX_HOLES;
 use crate::table::MAX_LEFTS;
 use crate::table::MAX_RIGHTS;
@@ -24,11 +27,15 @@ use crate::table::next_rule;
 use crate::table::right_from;
 use crate::table::rules_from;
 use crate::table::sites_from;
-use circuit::checked::AND;
-use circuit::checked::CLOSING;
 use circuit::checked::CONSTANTS;
-use circuit::checked::XOR;
+use circuit::checked::Tested;
+use circuit::checked::test_closing;
+use circuit::checked::test_gate;
+use circuit::checked::test_gates;
 use lines::is_partial;
+
+// As many bits as a word has that says which references are used; a left side has fewer.
+const WORD_BITS: u32 = 32;
 
 // Refusal 4 of the rules' head.
 fn rules_head_in_limits(t: &[u32]) -> bool
@@ -49,14 +56,117 @@ fn rule_in_limits(t: &[u32], p: usize) -> bool
     (holes <= MAX_HOLES) & ((1 <= lefts) & ((lefts <= MAX_LEFTS) & (rights <= MAX_RIGHTS)))
 }
 
-// Refusals 4 and 5 of the rules in one walk, since only a rule within its limits says where the next one begins; else 0.
-fn walk_from_top(t: &[u32]) -> u32
-    requires { ⌜ 3 ≤ length (now t) ⌝ }
-    ensures { λ r. ⌜ r ≡ walkFromTop (now (t .entry)) ⌝ }
+// The word of one reference. An operand can still be any number here: one that has no bit is no reference of a left side, and marks nothing.
+fn mark(r: u32) -> u32
+    ensures { λ w. ⌜ w ≡ mark r ⌝ }
+{
+    if r < WORD_BITS { 1u32 << r } else { 0 }
+}
+
+// The word of the references that refusal 8 asks for.
+fn owed(root: u32) -> u32
+    requires { ⌜ (constants ≤ root) × (root < wordBits) ⌝ }
+    ensures { λ w. ⌜ w ≡ owed root ⌝ }
+{
+    (1u32 << root) - (1u32 << CONSTANTS)
+}
+
+// What the left gate lines of a rule leave of what was tested earlier, and the word of the references that they use.
+struct LeftTested {
+    kinds: bool,
+    references: bool,
+    used: u32,
+}
+
+// Of n left gate lines, from number q on, the first of them reference `first`.
+fn test_lefts(t: &[u32], q: usize, n: usize, first: u32, earlier: Tested) -> LeftTested
+    requires { ⌜ q + 3 * n ≤ length (now t) ⌝ }
+    requires { ⌜ first + n ≤ maxLeftReferences ⌝ }
+    ensures { λ r. ⌜ r .kinds ≡ (earlier .kinds && allGates hasGateKind first (linesOf n (drop q (now (t .entry))))) ⌝ }
+    ensures { λ r. ⌜ r .references ≡ (earlier .references && allGates operandsBelow first (linesOf n (drop q (now (t .entry))))) ⌝ }
+    ensures { λ r. ⌜ MarksUses (r .used) (linesOf n (drop q (now (t .entry)))) ⌝ }
+{
+    let mut tested = earlier;
+    let mut used: u32 = 0;
+    for i in 0..n {
+        let p = q + 3 * i;
+        tested = test_gate(t, p, first + i as u32, tested);
+        used = used | (mark(t[p + 1]) | mark(t[p + 2]));
+    }
+    LeftTested {
+        kinds: tested.kinds,
+        references: tested.references,
+        used: used,
+    }
+}
+
+// Which refusals do not apply to the rules tested so far: 6 as long as `kinds` is true, 7 as long as `references` is, 8 as long as `uses` is.
+// They are kept to the end of the walk, since any 6 comes before all 7s, and any 7 before all 8s.
+struct RulesTested {
+    kinds: bool,
+    references: bool,
+    uses: bool,
+}
+
+// What the rule at p leaves of `earlier`.
+fn test_rule(t: &[u32], p: usize, earlier: RulesTested) -> RulesTested
+    requires { ⌜ RuleSized (now t) p ⌝ }
+    ensures { λ r. ⌜ r .kinds ≡ (earlier .kinds && ruleKindsOk (now (t .entry)) p) ⌝ }
+    ensures { λ r. ⌜ r .references ≡ (earlier .references && referencesOk (ruleAt (now (t .entry)) p)) ⌝ }
+    ensures { λ r. ⌜ r .uses ≡ (earlier .uses && usesOk (ruleAt (now (t .entry)) p)) ⌝ }
+{
+    let first = t[p] + CONSTANTS;
+    let lefts = t[p + 1];
+    let rights = t[p + 2];
+    let untested = Tested {
+        kinds: earlier.kinds,
+        references: earlier.references,
+    };
+    let left = test_lefts(t, left_from(t, p), lefts as usize, first, untested);
+    let left_tested = Tested {
+        kinds: left.kinds,
+        references: left.references,
+    };
+    let right_tested = test_gates(t, right_from(t, p), rights as usize, first, left_tested);
+    let closed = test_closing(t, closing_from(t, p), first + rights, right_tested);
+    let asked = owed(first + lefts - 1);
+    RulesTested {
+        kinds: closed.kinds,
+        references: closed.references,
+        uses: earlier.uses & (left.used & asked == asked),
+    }
+}
+
+// The lowest of 6, 7 and 8 that applies to some rule, or 0.
+fn lowest(tested: RulesTested) -> u32
+    ensures { λ r. ⌜ r ≡ first (not (tested .kinds)) 6 (first (not (tested .references)) 7 (first (not (tested .uses)) 8 0)) ⌝ }
+{
+    if !tested.kinds {
+        return 6;
+    }
+    if !tested.references {
+        return 7;
+    }
+    if !tested.uses {
+        return 8;
+    }
+    0
+}
+
+// All refusals but 1, in one walk. 4 and 5 are given at once, since only a rule within its limits, whose lines are there, can be tested, and
+// only such a rule says where the next one begins.
+fn walk_rules(t: &[u32]) -> u32
+    requires { ⌜ isPartial 3 (now t) ≡ false ⌝ }
+    ensures { λ r. ⌜ r ≡ rulesRefusal (now (t .entry)) ⌝ }
 {
     if !rules_head_in_limits(t) {
         return 4;
     }
+    let mut tested = RulesTested {
+        kinds: true,
+        references: true,
+        uses: true,
+    };
     let mut remaining = t[0];
     let mut p = rules_from(t);
     while 0 < remaining {
@@ -70,148 +180,14 @@ fn walk_from_top(t: &[u32]) -> u32
         if t.len() < next {
             return 5;
         }
+        tested = test_rule(t, p, tested);
         p = next;
         remaining -= 1;
     }
-    if p == t.len() { 0 } else { 5 }
-}
-
-// Refusal 6 of n gate lines, from number q on.
-fn gate_kinds_ok(t: &[u32], q: usize, n: usize) -> bool
-    requires { ⌜ q + 3 * n ≤ length (now t) ⌝ }
-    ensures { λ r. ⌜ r ≡ allGates hasGateKind 0 (linesOf n (drop q (now (t .entry)))) ⌝ }
-{
-    for i in 0..n {
-        let kind = t[q + 3 * i];
-        if !((kind == XOR) | (kind == AND)) {
-            return false;
-        }
+    if p != t.len() {
+        return 5;
     }
-    true
-}
-
-// Refusal 6 of the rule at p.
-fn rule_kinds_ok(t: &[u32], p: usize) -> bool
-    requires { ⌜ RuleSized (now t) p ⌝ }
-    ensures { λ r. ⌜ r ≡ ruleKindsOk (now (t .entry)) p ⌝ }
-{
-    let lefts = t[p + 1] as usize;
-    let rights = t[p + 2] as usize;
-    let closing = closing_from(t, p);
-    let left_ok = gate_kinds_ok(t, left_from(t, p), lefts);
-    let right_ok = gate_kinds_ok(t, right_from(t, p), rights);
-    left_ok & (right_ok & ((t[closing] == CLOSING) & (t[closing + 2] == 0)))
-}
-
-// Refusal 7 of n gate lines, from number q on.
-fn operands_ok(t: &[u32], q: usize, n: usize, holes: u32) -> bool
-    requires { ⌜ (firstGate holes + n ≤ maxLeftReferences) × (q + 3 * n ≤ length (now t)) ⌝ }
-    ensures { λ r. ⌜ r ≡ allGates operandsBelow (firstGate holes) (linesOf n (drop q (now (t .entry)))) ⌝ }
-{
-    let base = holes + CONSTANTS;
-    for i in 0..n {
-        let p = q + 3 * i;
-        let own = base + i as u32;
-        if !((t[p + 1] < own) & (t[p + 2] < own)) {
-            return false;
-        }
-    }
-    true
-}
-
-// Refusal 7 of the rule at p.
-fn references_ok(t: &[u32], p: usize) -> bool
-    requires { ⌜ RuleSized (now t) p ⌝ }
-    ensures { λ r. ⌜ r ≡ referencesOk (ruleAt (now (t .entry)) p) ⌝ }
-{
-    let holes = t[p];
-    let lefts = t[p + 1] as usize;
-    let rights = t[p + 2];
-    let closing = t[closing_from(t, p) + 1];
-    let left_ok = operands_ok(t, left_from(t, p), lefts, holes);
-    let right_ok = operands_ok(t, right_from(t, p), rights as usize, holes);
-    left_ok & (right_ok & (closing < holes + CONSTANTS + rights))
-}
-
-// Whether reference r is an operand in n gate lines, from number q on.
-fn is_used(t: &[u32], q: usize, n: usize, r: u32) -> bool
-    requires { ⌜ q + 3 * n ≤ length (now t) ⌝ }
-    ensures { λ x. ⌜ x ≡ isUsed r (linesOf n (drop q (now (t .entry)))) ⌝ }
-{
-    for i in 0..n {
-        let p = q + 3 * i;
-        if (r == t[p + 1]) | (r == t[p + 2]) {
-            return true;
-        }
-    }
-    false
-}
-
-// Refusal 8 of the rule at p: its holes and its left gates but the last are the references from 2 up to the root.
-fn uses_ok(t: &[u32], p: usize) -> bool
-    requires { ⌜ RuleSized (now t) p ⌝ }
-    ensures { λ r. ⌜ r ≡ usesOk (ruleAt (now (t .entry)) p) ⌝ }
-{
-    let lefts = t[p + 1];
-    let from = left_from(t, p);
-    let below_root = t[p] + lefts - 1;
-    for i in 0..below_root {
-        if !is_used(t, from, lefts as usize, i + CONSTANTS) {
-            return false;
-        }
-    }
-    true
-}
-
-// Refusal 6 of the rules.
-fn rules_kinds_ok(t: &[u32]) -> bool
-    requires { ⌜ RulesSized (now t) ⌝ }
-    ensures { λ r. ⌜ r ≡ rulesKindsOk (now (t .entry)) ⌝ }
-{
-    let mut remaining = t[0];
-    let mut p = rules_from(t);
-    while 0 < remaining {
-        if !rule_kinds_ok(t, p) {
-            return false;
-        }
-        p = next_rule(t, p);
-        remaining -= 1;
-    }
-    true
-}
-
-// Refusal 7 of the rules.
-fn rules_references_ok(t: &[u32]) -> bool
-    requires { ⌜ RulesSized (now t) ⌝ }
-    ensures { λ r. ⌜ r ≡ rulesReferencesOk (now (t .entry)) ⌝ }
-{
-    let mut remaining = t[0];
-    let mut p = rules_from(t);
-    while 0 < remaining {
-        if !references_ok(t, p) {
-            return false;
-        }
-        p = next_rule(t, p);
-        remaining -= 1;
-    }
-    true
-}
-
-// Refusal 8 of the rules.
-fn rules_uses_ok(t: &[u32]) -> bool
-    requires { ⌜ RulesSized (now t) ⌝ }
-    ensures { λ r. ⌜ r ≡ rulesUsesOk (now (t .entry)) ⌝ }
-{
-    let mut remaining = t[0];
-    let mut p = rules_from(t);
-    while 0 < remaining {
-        if !uses_ok(t, p) {
-            return false;
-        }
-        p = next_rule(t, p);
-        remaining -= 1;
-    }
-    true
+    lowest(tested)
 }
 
 // Refusal 4 of the sites.
@@ -238,20 +214,7 @@ pub fn rules_refusal(t: &[u32]) -> u32
     if is_partial(t) {
         return 1;
     }
-    let walked = walk_from_top(t);
-    if walked != 0 {
-        return walked;
-    }
-    if !rules_kinds_ok(t) {
-        return 6;
-    }
-    if !rules_references_ok(t) {
-        return 7;
-    }
-    if !rules_uses_ok(t) {
-        return 8;
-    }
-    0
+    walk_rules(t)
 }
 
 // The number of the first refusal that applies to the sites, or 0.

@@ -11,15 +11,18 @@ ghost use Rattle.circuit.specs.Evaluation.{bitOp};
 ghost use Rattle.circuit.specs.Refusal.{operandsBelow};
 ghost use Rattle.circuit.specs.Table.{linesOf};
 ghost use Rattle.rules.specs.Rule.{maxHoles, maxLeftReferences};
+ghost use Rattle.rules.specs.Remembered.{judgedRule, Remembered};
 ghost use Rattle.rules.specs.RuleTable.{ruleAt};
 ghost use Rattle.rules.specs.Soundness.{sideValue, isSound};
-ghost use Rattle.rules.specs.Verdict.{passes, notSound, judgement};
+ghost use Rattle.rules.specs.Verdict.{passes, notSound};
 ghost use Rattle.rules.specs.WellFormed.{WellFormedRule, WellFormedRules};
 ghost use Rattle.rules.specs.Words.{assignments, startWords};
-use crate::BINDINGS;
 use crate::NO_RULE;
 use crate::NOT_SOUND;
 use crate::PASSES;
+use crate::table::BINDINGS;
+use crate::table::MAX_RULES;
+use crate::table::RULE_NUMBERS;
 use crate::table::closing_from;
 use crate::table::has_rule;
 use crate::table::left_from;
@@ -54,6 +57,12 @@ const START_WORDS: [u64; BINDINGS] = [
     0,
     0,
 ];
+
+// A rule's place in its table, and the judge's verdict on it.
+pub struct JudgedRule {
+    pub place: usize,
+    pub verdict: u32,
+}
 
 fn gate_word(kind: u32, a: u64, b: u64) -> u64
     ensures { λ r. ⌜ r ≡ bitOp kind a b ⌝ }
@@ -110,13 +119,46 @@ pub fn soundness_verdict(t: &[u32], p: usize) -> u32
     NOT_SOUND
 }
 
-// NO_RULE or NOT_SOUND, else PASSES, of a rule by its number.
-pub fn judgement(t: &[u32], rule: u32) -> u32
+// Where the rule of a number begins, 0 if there is none, and NO_RULE or NOT_SOUND, else PASSES, of it.
+pub fn judged_rule(t: &[u32], rule: u32) -> JudgedRule
     requires { ⌜ WellFormedRules (now t) ⌝ }
-    ensures { λ r. ⌜ r ≡ judgement (now (t .entry)) rule ⌝ }
+    ensures { λ r. ⌜ r ≡ judgedRule (now (t .entry)) rule ⌝ }
 {
     if !has_rule(t, rule) {
-        return NO_RULE;
+        return JudgedRule {
+            place: 0,
+            verdict: NO_RULE,
+        };
     }
-    soundness_verdict(t, place(t, rule))
+    let p = place(t, rule);
+    JudgedRule {
+        place: p,
+        verdict: soundness_verdict(t, p),
+    }
+}
+
+// The same, worked out if `known` does not have it yet, and then kept there. A number beyond every table's rules needs no entry.
+pub fn judged_once(t: &[u32], rule: u32, known: &mut [usize; RULE_NUMBERS]) -> JudgedRule
+    requires { ⌜ WellFormedRules (now t) ⌝ }
+    requires { ⌜ Remembered (now t) (now known) ⌝ }
+    ensures { λ r. ⌜ r ≡ judgedRule (now (t .entry)) rule ⌝ }
+    ensures { λ _. ⌜ Remembered (now (t .entry)) (now (known .exit)) ⌝ }
+{
+    if MAX_RULES < rule {
+        return JudgedRule {
+            place: 0,
+            verdict: NO_RULE,
+        };
+    }
+    let k = rule as usize;
+    let old = known[k];
+    if old != 0 {
+        return JudgedRule {
+            place: old / 4,
+            verdict: (old % 4) as u32,
+        };
+    }
+    let new = judged_rule(t, rule);
+    known[k] = 4 * new.place + new.verdict as usize;
+    new
 }

@@ -13,12 +13,11 @@ mod verdict;
 
 use circuit::CIRCUIT_TABLE;
 use circuit::checked::refusal;
-use judging::judgement;
+use judging::judged_rule;
 use lines::NO_TABLE;
 use lines::Refusal;
 use lines::is_partial;
 use lines::refuse;
-use table::BINDINGS;
 use verdict::trimmed_verdict;
 
 // 01's numbers of the tables of rules and sites, for the refusals that lie in them.
@@ -58,19 +57,13 @@ pub enum ReferenceKind {
     Beyond,
 }
 
-// A verdict from 0 to 4, and the bindings of the match if it is 0; else zeros.
-pub struct SiteMatch {
-    pub verdict: u32,
-    pub bindings: [u32; BINDINGS],
-}
-
 // The verdict on a rule by its number: 1 if there is none, 2 if it is not sound, else 0.
 pub fn judge(rules: &[u32], rule: u32) -> Judged
     ensures { λ r. ⌜ judgedValues r ≡ judging (now (rules .entry)) rule ⌝ }
 {
     let number = checked::rules_refusal(rules);
     match number {
-        0 => Judged::Verdict(judgement(rules, rule)),
+        0 => Judged::Verdict(judged_rule(rules, rule).verdict),
         _ => Judged::Refused(refuse(number, RULES_TABLE)),
     }
 }

@@ -11,11 +11,10 @@ ghost use Rattle.circuit.specs.WellFormed.{WellFormed};
 ghost use Rattle.rules.specs.Rule.{maxLeftReferences};
 ghost use Rattle.rules.specs.RuleTable.{leftsAt, ruleAt};
 ghost use Rattle.rules.specs.WellFormed.{WellFormedRule};
-ghost use Rattle.rules.specs.Match.{bindReference, matchGate, matchGates, attempt};
-ghost use Rattle.rules.specs.Verdict.{failing, matchAt};
+ghost use Rattle.rules.specs.Match.{unbound, bindReference, matchGate, matchGates, attempt};
+ghost use Rattle.rules.specs.Verdict.{givenWith, matchAt};
 use crate::NO_MATCH;
 use crate::PASSES;
-use crate::SiteMatch;
 use crate::table::BINDINGS;
 use crate::table::left_from;
 use circuit::checked::AND;
@@ -23,16 +22,6 @@ use circuit::checked::CONSTANTS;
 use circuit::checked::XOR;
 use circuit::checked::gate_line;
 use circuit::checked::gates_from;
-
-// A verdict that applies: there are no bindings.
-pub fn failing(verdict: u32) -> SiteMatch
-    ensures { λ r. ⌜ r ≡ failing verdict ⌝ }
-{
-    SiteMatch {
-        verdict: verdict,
-        bindings: [0u32; BINDINGS],
-    }
-}
 
 // Rule reference r paired with circuit reference v: an unbound one becomes bound. Where it fails, the bindings are of no more use.
 fn bind_reference(b: &mut [u32; BINDINGS], r: usize, v: u32) -> bool
@@ -138,28 +127,32 @@ fn match_gates(c: &[u32], t: &[u32], p: usize, mask: u32, b: &mut [u32; BINDINGS
     true
 }
 
-// NO_MATCH, else PASSES, of the rule at number p of t at a gate, with the bindings.
-pub fn match_at(c: &[u32], t: &[u32], p: usize, gate: u32, mask: u32) -> SiteMatch
+// NO_MATCH, else PASSES, of the rule at number p of t at a gate. The bindings go into b, where nothing is bound yet.
+pub fn match_at(
+    c: &[u32],
+    t: &[u32],
+    p: usize,
+    gate: u32,
+    mask: u32,
+    b: &mut [u32; BINDINGS],
+) -> u32
     requires { ⌜ WellFormed (now c) ⌝ }
     requires { ⌜ WellFormedRule (now t) p ⌝ }
     requires { ⌜ gate < refs (now c) ⌝ }
-    ensures { λ r. ⌜ r ≡ matchAt (decode (now (c .entry))) (ruleAt (now (t .entry)) p) gate mask ⌝ }
+    requires { ⌜ now b ≡ unbound ⌝ }
+    ensures { λ r. ⌜ givenWith (now (b .exit)) r ≡ matchAt (decode (now (c .entry))) (ruleAt (now (t .entry)) p) gate mask ⌝ }
 {
     let lefts = t[p + 1];
     if mask >> lefts != 0 {
-        return failing(NO_MATCH);
+        return NO_MATCH;
     }
     // the constants are bound to themselves, the last left gate to the site's gate
-    let mut b = [0u32; BINDINGS];
     b[0] = 1;
     b[1] = 2;
     let root = t[p] as usize + CONSTANTS as usize + lefts as usize - 1;
     b[root] = gate + 1;
-    if match_gates(c, t, p, mask, &mut b) {
-        return SiteMatch {
-            verdict: PASSES,
-            bindings: b,
-        };
+    if match_gates(c, t, p, mask, b) {
+        return PASSES;
     }
-    failing(NO_MATCH)
+    NO_MATCH
 }

@@ -2,27 +2,27 @@
 ghost use mathlib.Core.Path.{_≡_};
 ghost use Prim.Native.Nat.{_≤_};
 ghost use lib.Dec.{eqb};
+ghost use lib.ListN.{length};
 ghost use Rattle.lists.specs.First.{first};
-ghost use Rattle.circuit.specs.Table.{decode};
+ghost use Rattle.circuit.specs.Table.{tableEnd, decode};
 ghost use Rattle.circuit.specs.Trim.{trimOf};
 ghost use Rattle.circuit.specs.WellFormed.{WellFormed};
+ghost use Rattle.rules.specs.Match.{unbound};
 ghost use Rattle.rules.specs.RuleTable.{ruleAt};
 ghost use Rattle.rules.specs.WellFormed.{WellFormedRule, WellFormedRules};
-ghost use Rattle.rules.specs.Verdict.{passes, notSound, kindOf, kindVerdict, matchJudged, matchSite};
+ghost use Rattle.rules.specs.Verdict.{passes, notSound, kindOf, kindVerdict, givenWith, matchJudged, matchSite};
 use crate::NO_RULE;
 use crate::NOT_A_GATE;
 use crate::NOT_SOUND;
 use crate::PASSES;
 use crate::ReferenceKind;
-use crate::SiteMatch;
-use crate::judging::soundness_verdict;
-use crate::matching::failing;
+use crate::judging::judged_rule;
 use crate::matching::match_at;
-use crate::table::has_rule;
-use crate::table::place;
+use crate::table::BINDINGS;
 use circuit::checked::CONSTANTS;
 use circuit::checked::LAST_REFERENCE;
 use circuit::checked::MAX_TABLE;
+use circuit::checked::SMALL_TABLE;
 use circuit::checked::trim;
 
 // What reference v is. A range's bounds are constants, so that the bounds that vary from circuit to circuit are tested in its arm.
@@ -62,31 +62,38 @@ fn site_verdict(judged: u32, kind: ReferenceKind) -> u32
     }
 }
 
-// The first verdict that applies, else PASSES with the bindings, of the rule at number p of t, where the judge said `judged` of it.
-fn match_judged(c: &[u32], t: &[u32], p: usize, judged: u32, gate: u32, mask: u32) -> SiteMatch
+// The first verdict that applies, else PASSES, of the rule at number p of t, where the judge said `judged` of it. The bindings go into b.
+pub fn match_judged(
+    c: &[u32],
+    t: &[u32],
+    p: usize,
+    judged: u32,
+    gate: u32,
+    mask: u32,
+    b: &mut [u32; BINDINGS],
+) -> u32
     requires { ⌜ WellFormed (now c) ⌝ }
-    requires { ⌜ WellFormedRule (now t) p ⌝ }
     requires { ⌜ judged ≤ notSound ⌝ }
-    ensures { λ r. ⌜ r ≡ matchJudged (decode (now (c .entry))) (ruleAt (now (t .entry)) p) judged gate mask ⌝ }
+    requires { ⌜ (judged ≡ passes → WellFormedRule (now t) p) ⌝ }
+    requires { ⌜ now b ≡ unbound ⌝ }
+    ensures { λ r. ⌜ givenWith (now (b .exit)) r ≡ matchJudged (decode (now (c .entry))) (ruleAt (now (t .entry)) p) judged gate mask ⌝ }
 {
     let verdict = site_verdict(judged, kind_of(c, gate));
     match verdict {
-        NO_RULE | NOT_SOUND | NOT_A_GATE => failing(verdict),
-        PASSES | _ => match_at(c, t, p, gate, mask),
+        NO_RULE | NOT_SOUND | NOT_A_GATE => verdict,
+        PASSES | _ => match_at(c, t, p, gate, mask, b),
     }
 }
 
-// The first of a site's verdicts up to NO_MATCH that applies, else PASSES, with the bindings of the match.
-pub fn site_match(c: &[u32], t: &[u32], rule: u32, gate: u32, mask: u32) -> SiteMatch
+// The first of a site's verdicts up to NO_MATCH that applies, else PASSES.
+fn match_verdict(c: &[u32], t: &[u32], rule: u32, gate: u32, mask: u32) -> u32
     requires { ⌜ WellFormed (now c) ⌝ }
     requires { ⌜ WellFormedRules (now t) ⌝ }
-    ensures { λ r. ⌜ r ≡ matchSite (decode (now (c .entry))) (now (t .entry)) rule gate mask ⌝ }
+    ensures { λ r. ⌜ r ≡ matchSite (decode (now (c .entry))) (now (t .entry)) rule gate mask .verdict ⌝ }
 {
-    if !has_rule(t, rule) {
-        return failing(NO_RULE);
-    }
-    let p = place(t, rule);
-    match_judged(c, t, p, soundness_verdict(t, p), gate, mask)
+    let mut b = [0u32; BINDINGS];
+    let judged = judged_rule(t, rule);
+    match_judged(c, t, judged.place, judged.verdict, gate, mask, &mut b)
 }
 
 // The first verdict that applies in the trimmed circuit, else PASSES.
@@ -95,7 +102,28 @@ pub fn trimmed_verdict(c: &[u32], t: &[u32], rule: u32, gate: u32, mask: u32) ->
     requires { ⌜ WellFormedRules (now t) ⌝ }
     ensures { λ r. ⌜ r ≡ matchSite (decode (trimOf (now (c .entry)))) (now (t .entry)) rule gate mask .verdict ⌝ }
 {
+    if c.len() <= SMALL_TABLE {
+        let mut work = [0u32; SMALL_TABLE];
+        return trimmed_verdict_in(c, t, rule, gate, mask, &mut work);
+    }
     let mut work = [0u32; MAX_TABLE];
-    let end = trim(c, &mut work);
-    site_match(&work[..end], t, rule, gate, mask).verdict
+    trimmed_verdict_in(c, t, rule, gate, mask, &mut work)
+}
+
+// The same in a lent array, for the trimmed circuit's table.
+fn trimmed_verdict_in(
+    c: &[u32],
+    t: &[u32],
+    rule: u32,
+    gate: u32,
+    mask: u32,
+    work: &mut [u32],
+) -> u32
+    requires { ⌜ WellFormed (now c) ⌝ }
+    requires { ⌜ WellFormedRules (now t) ⌝ }
+    requires { ⌜ tableEnd (now c) ≤ length (now work) ⌝ }
+    ensures { λ r. ⌜ r ≡ matchSite (decode (trimOf (now (c .entry)))) (now (t .entry)) rule gate mask .verdict ⌝ }
+{
+    let end = trim(c, work);
+    match_verdict(&work[..end], t, rule, gate, mask)
 }

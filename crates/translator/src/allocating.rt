@@ -29,9 +29,9 @@ use circuit::checked::output_reference;
 
 // v is loaded, if it is in no register.
 pub fn ensure_loaded(
-    owner: &mut [u32; MAX_REGISTERS],
-    freed: &[u32; MAX_REGISTERS],
-    place: &mut [u32; MAX_REFERENCES],
+    owner: &mut [u16; MAX_REGISTERS],
+    freed: &[u16; MAX_REGISTERS],
+    place: &mut [u16; MAX_REFERENCES],
     buffer: &mut [u32],
     counts: Counts,
     v: usize,
@@ -52,15 +52,15 @@ pub fn ensure_loaded(
 // The operation of a gate, whose operands are in registers: they are read, and if `number`, which is the gate's counted from 1, is their
 // last use, their registers are free before v, the gate's value, takes one.
 fn operate(
-    owner: &mut [u32; MAX_REGISTERS],
-    freed: &mut [u32; MAX_REGISTERS],
-    place: &mut [u32; MAX_REFERENCES],
+    owner: &mut [u16; MAX_REGISTERS],
+    freed: &mut [u16; MAX_REGISTERS],
+    place: &mut [u16; MAX_REFERENCES],
     buffer: &mut [u32],
-    last: &[u32; MAX_REFERENCES],
+    last: &[u16; MAX_REFERENCES],
     counts: Counts,
     gate: Gate,
     v: usize,
-    number: u32,
+    number: u16,
 ) -> Counts
     requires { ⌜ RegisterArrays (now owner) (now freed) (now place) (counts .free) (counts .fresh) ⌝ }
     requires { ⌜ (gate .left < v) × (gate .right < v) × (v < maxReferences) ⌝ }
@@ -73,8 +73,8 @@ fn operate(
 {
     let left = gate.left as usize;
     let right = gate.right as usize;
-    let a = place[left];
-    let b = place[right];
+    let a = place[left] as u32;
+    let b = place[right] as u32;
     let keep_left = (left == right) | (number < last[left]);
     let between = release(owner, freed, place, counts, keep_left, left);
     let keep_right = number < last[right];
@@ -84,15 +84,15 @@ fn operate(
 
 // One gate: its operands are loaded, the left one first, and its operation is done.
 fn gate_turn(
-    owner: &mut [u32; MAX_REGISTERS],
-    freed: &mut [u32; MAX_REGISTERS],
-    place: &mut [u32; MAX_REFERENCES],
+    owner: &mut [u16; MAX_REGISTERS],
+    freed: &mut [u16; MAX_REGISTERS],
+    place: &mut [u16; MAX_REFERENCES],
     buffer: &mut [u32],
-    last: &[u32; MAX_REFERENCES],
+    last: &[u16; MAX_REFERENCES],
     counts: Counts,
     gate: Gate,
     v: usize,
-    number: u32,
+    number: u16,
 ) -> Counts
     requires { ⌜ RegisterArrays (now owner) (now freed) (now place) (counts .free) (counts .fresh) ⌝ }
     requires { ⌜ (gate .left < v) × (gate .right < v) × (v < maxReferences) ⌝ }
@@ -110,10 +110,10 @@ fn gate_turn(
 // All gates in order, where `last` has the last use of each reference.
 pub fn allocate_gates(
     t: &[u32],
-    last: &[u32; MAX_REFERENCES],
-    owner: &mut [u32; MAX_REGISTERS],
-    freed: &mut [u32; MAX_REGISTERS],
-    place: &mut [u32; MAX_REFERENCES],
+    last: &[u16; MAX_REFERENCES],
+    owner: &mut [u16; MAX_REGISTERS],
+    freed: &mut [u16; MAX_REGISTERS],
+    place: &mut [u16; MAX_REFERENCES],
     buffer: &mut [u32],
 ) -> Counts
     requires { ⌜ WellFormed (now t) ⌝ }
@@ -136,7 +136,7 @@ pub fn allocate_gates(
     let mut i: usize = 0;
     while i < gates {
         let gate = gate_line(t, from, i);
-        let number = i as u32 + 1;
+        let number = i as u16 + 1;
         let next = gate_turn(
             owner,
             freed,
@@ -157,9 +157,9 @@ pub fn allocate_gates(
 // What only outputs use is loaded, in output order.
 pub fn load_outputs(
     t: &[u32],
-    owner: &mut [u32; MAX_REGISTERS],
-    freed: &[u32; MAX_REGISTERS],
-    place: &mut [u32; MAX_REFERENCES],
+    owner: &mut [u16; MAX_REGISTERS],
+    freed: &[u16; MAX_REGISTERS],
+    place: &mut [u16; MAX_REFERENCES],
     buffer: &mut [u32],
     start: Counts,
 ) -> Counts

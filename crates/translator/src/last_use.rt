@@ -13,7 +13,7 @@ use circuit::checked::gates_from;
 use circuit::checked::output_reference;
 
 // The last gate that uses each reference, counted from 1.
-fn mark_operands(t: &[u32], last: &mut [u32; MAX_REFERENCES])
+fn mark_operands(t: &[u32], last: &mut [u16; MAX_REFERENCES])
     requires { ⌜ WellFormed (now t) ⌝ }
     requires { ⌜ length (now last) ≡ maxReferences ⌝ }
     requires { ⌜ ((v : ℕ) → getD (now last) v 0 ≡ 0) ⌝ }
@@ -24,14 +24,14 @@ fn mark_operands(t: &[u32], last: &mut [u32; MAX_REFERENCES])
     let gates = t[1] as usize;
     for i in 0..gates {
         let line = gate_line(t, from, i);
-        let number = i as u32 + 1;
+        let number = i as u16 + 1;
         last[line.left as usize] = number;
         last[line.right as usize] = number;
     }
 }
 
 // Outputs are used behind all gates. One that is marked already is the same reference as a later one, and is not counted.
-fn mark_outputs(t: &[u32], last: &mut [u32; MAX_REFERENCES]) -> u32
+fn mark_outputs(t: &[u32], last: &mut [u16; MAX_REFERENCES]) -> u32
     requires { ⌜ WellFormed (now t) ⌝ }
     requires { ⌜ length (now last) ≡ maxReferences ⌝ }
     requires { ⌜ ((v : ℕ) → getD (now last) v 0 ≡ lastGate (gateLines (now t)) (gates (now t)) v) ⌝ }
@@ -40,7 +40,7 @@ fn mark_outputs(t: &[u32], last: &mut [u32; MAX_REFERENCES]) -> u32
     ensures { λ _. ⌜ length (now (last .exit)) ≡ maxReferences ⌝ }
 {
     let from = closings_from(t);
-    let number = t[1] + 1;
+    let number = t[1] as u16 + 1;
     let mut distinct = 0;
     let mut i = t[2] as usize;
     while 0 < i {
@@ -55,7 +55,7 @@ fn mark_outputs(t: &[u32], last: &mut [u32; MAX_REFERENCES]) -> u32
 }
 
 // The last use of each reference, and how many different references the outputs are.
-pub fn last_uses(t: &[u32], last: &mut [u32; MAX_REFERENCES]) -> u32
+pub fn last_uses(t: &[u32], last: &mut [u16; MAX_REFERENCES]) -> u32
     requires { ⌜ WellFormed (now t) ⌝ }
     requires { ⌜ length (now last) ≡ maxReferences ⌝ }
     requires { ⌜ ((v : ℕ) → getD (now last) v 0 ≡ 0) ⌝ }

@@ -7,7 +7,7 @@ ghost use Rattle.circuit.specs.Table.{gates, gatesFrom, gateLines, decode};
 ghost use Rattle.circuit.specs.Trim.{trim};
 ghost use Rattle.circuit.specs.WellFormed.{WellFormed};
 ghost use Rattle.translator.specs.LastUse.{lastUse, countDistinct};
-ghost use Rattle.translator.specs.LiveRange.{isUsedBefore};
+ghost use Rattle.translator.specs.Actions.{isUnloaded};
 ghost use Rattle.translator.specs.Pressure.{oneIf, arrivals, departures, pressureAfter, linearNeed};
 use circuit::checked::CONSTANTS;
 use circuit::checked::MAX_REFERENCES;
@@ -22,48 +22,62 @@ fn count_true(a: bool, b: bool) -> u32
     a as u32 + b as u32
 }
 
-// How many values gate i loads: the constants and inputs among its operands that no gate before it has marked as used. It marks both.
-fn arrivals(t: &[u32], from: usize, i: usize, used: &mut [u32; MAX_REFERENCES]) -> u32
+// Constants and inputs are marked as unloaded: no gate has used one.
+fn mark_sources(t: &[u32], unloaded: &mut [u8; MAX_REFERENCES])
+    requires { ⌜ WellFormed (now t) ⌝ }
+    requires { ⌜ length (now unloaded) ≡ maxReferences ⌝ }
+    requires { ⌜ ((v : ℕ) → getD (now unloaded) v 0 ≡ 0) ⌝ }
+    ensures { λ _. ⌜ ((v : ℕ) → getD (now (unloaded .exit)) v 0 ≡ oneIf (isUnloaded (decode (now (t .entry))) 0 v)) ⌝ }
+    ensures { λ _. ⌜ length (now (unloaded .exit)) ≡ maxReferences ⌝ }
+{
+    let first_gate = (t[0] + CONSTANTS) as usize;
+    for v in 0..first_gate {
+        unloaded[v] = 1;
+    }
+}
+
+// How many values gate i loads: those of its operands that are marked as unloaded. It unmarks both.
+fn arrivals(t: &[u32], from: usize, i: usize, unloaded: &mut [u8; MAX_REFERENCES]) -> u32
     requires { ⌜ WellFormed (now t) ⌝ }
     requires { ⌜ from ≡ gatesFrom (now t) ⌝ }
     requires { ⌜ i < gates (now t) ⌝ }
-    requires { ⌜ length (now used) ≡ maxReferences ⌝ }
-    requires { ⌜ ((v : ℕ) → getD (now used) v 0 ≡ oneIf (isUsedBefore (decode (now t)) i v)) ⌝ }
+    requires { ⌜ length (now unloaded) ≡ maxReferences ⌝ }
+    requires { ⌜ ((v : ℕ) → getD (now unloaded) v 0 ≡ oneIf (isUnloaded (decode (now t)) i v)) ⌝ }
     ensures { λ r. ⌜ r ≡ arrivals (decode (now (t .entry))) i (getD (gateLines (now (t .entry))) i noGate) ⌝ }
-    ensures { λ _. ⌜ ((v : ℕ) → getD (now (used .exit)) v 0 ≡ oneIf (isUsedBefore (decode (now (t .entry))) (i + 1) v)) ⌝ }
-    ensures { λ _. ⌜ length (now (used .exit)) ≡ maxReferences ⌝ }
+    ensures { λ _. ⌜ ((v : ℕ) → getD (now (unloaded .exit)) v 0 ≡ oneIf (isUnloaded (decode (now (t .entry))) (i + 1) v)) ⌝ }
+    ensures { λ _. ⌜ length (now (unloaded .exit)) ≡ maxReferences ⌝ }
 {
     let line = gate_line(t, from, i);
-    let first_gate = t[0] + CONSTANTS;
-    let left = (line.left < first_gate) & (used[line.left as usize] == 0);
-    used[line.left as usize] = 1;
-    let right = (line.right < first_gate) & (used[line.right as usize] == 0);
-    used[line.right as usize] = 1;
+    let left = unloaded[line.left as usize];
+    unloaded[line.left as usize] = 0;
+    let right = unloaded[line.right as usize];
+    unloaded[line.right as usize] = 0;
+    left as u32 + right as u32
+}
+
+// How many of its operands gate i is not the last to use. Two equal ones are one value, and the right one stands for it.
+fn kept_operands(t: &[u32], from: usize, i: usize, last: &[u16; MAX_REFERENCES]) -> u32
+    requires { ⌜ WellFormed (now t) ⌝ }
+    requires { ⌜ from ≡ gatesFrom (now t) ⌝ }
+    requires { ⌜ i < gates (now t) ⌝ }
+    requires { ⌜ ((v : ℕ) → getD (now last) v 0 ≡ lastUse (decode (now t)) v) ⌝ }
+    ensures { λ r. ⌜ r + departures (decode (now (t .entry))) i (getD (gateLines (now (t .entry))) i noGate) ≡ 2 ⌝ }
+{
+    let line = gate_line(t, from, i);
+    let number = i as u16 + 1;
+    let left = (line.left == line.right) | (number < last[line.left as usize]);
+    let right = number < last[line.right as usize];
     count_true(left, right)
 }
 
-// How many values gate i is the last to use. Two equal operands are one value.
-fn departures(t: &[u32], from: usize, i: usize, last: &[u32; MAX_REFERENCES]) -> u32
-    requires { ⌜ WellFormed (now t) ⌝ }
-    requires { ⌜ from ≡ gatesFrom (now t) ⌝ }
-    requires { ⌜ i < gates (now t) ⌝ }
-    requires { ⌜ ((v : ℕ) → getD (now last) v 0 ≡ lastUse (decode (now t)) v) ⌝ }
-    ensures { λ r. ⌜ r ≡ departures (decode (now (t .entry))) i (getD (gateLines (now (t .entry))) i noGate) ⌝ }
-{
-    let line = gate_line(t, from, i);
-    let number = i as u32 + 1;
-    let left = (line.left == line.right) | (number < last[line.left as usize]);
-    let right = number < last[line.right as usize];
-    count_true(!left, !right)
-}
-
-// The most values held just before or just after a gate's operation, with nothing marked as used at first.
-fn most_held(t: &[u32], last: &[u32; MAX_REFERENCES], used: &mut [u32; MAX_REFERENCES]) -> u32
+// The most values held just before or just after a gate's operation. What is held just after one is held before the next one too, so
+// that only the last gate's is looked at by itself.
+fn most_held(t: &[u32], last: &[u16; MAX_REFERENCES], unloaded: &mut [u8; MAX_REFERENCES]) -> u32
     requires { ⌜ WellFormed (now t) ⌝ }
     requires { ⌜ trim (decode (now t)) ≡ decode (now t) ⌝ }
     requires { ⌜ ((v : ℕ) → getD (now last) v 0 ≡ lastUse (decode (now t)) v) ⌝ }
-    requires { ⌜ length (now used) ≡ maxReferences ⌝ }
-    requires { ⌜ ((v : ℕ) → getD (now used) v 0 ≡ 0) ⌝ }
+    requires { ⌜ length (now unloaded) ≡ maxReferences ⌝ }
+    requires { ⌜ ((v : ℕ) → getD (now unloaded) v 0 ≡ oneIf (isUnloaded (decode (now t)) 0 v)) ⌝ }
     ensures { λ r. ⌜ r ≡ pressureAfter (decode (now (t .entry))) (gates (now (t .entry))) .most ⌝ }
 {
     let from = gates_from(t);
@@ -71,15 +85,15 @@ fn most_held(t: &[u32], last: &[u32; MAX_REFERENCES], used: &mut [u32; MAX_REFER
     let mut held = 0;
     let mut most = 0;
     for i in 0..gates {
-        let before = held + arrivals(t, from, i, used);
-        held = before - departures(t, from, i, last) + 1;
-        most = larger(larger(most, before), held);
+        let before = held + arrivals(t, from, i, unloaded);
+        most = larger(most, before);
+        held = before + kept_operands(t, from, i, last) - 1;
     }
-    most
+    larger(most, held)
 }
 
 // The need, counted in one pass.
-pub fn need(t: &[u32], last: &[u32; MAX_REFERENCES], distinct: u32) -> u32
+pub fn need(t: &[u32], last: &[u16; MAX_REFERENCES], distinct: u32) -> u32
     requires { ⌜ WellFormed (now t) ⌝ }
     requires { ⌜ trim (decode (now t)) ≡ decode (now t) ⌝ }
     requires { ⌜ length (now last) ≡ maxReferences ⌝ }
@@ -87,6 +101,7 @@ pub fn need(t: &[u32], last: &[u32; MAX_REFERENCES], distinct: u32) -> u32
     requires { ⌜ distinct ≡ countDistinct (decode (now t) .outputs) ⌝ }
     ensures { λ r. ⌜ r ≡ linearNeed (decode (now (t .entry))) ⌝ }
 {
-    let mut used = [0u32; MAX_REFERENCES];
-    larger(most_held(t, last, &mut used), distinct)
+    let mut unloaded = [0u8; MAX_REFERENCES];
+    mark_sources(t, &mut unloaded);
+    larger(most_held(t, last, &mut unloaded), distinct)
 }

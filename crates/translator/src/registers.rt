@@ -24,22 +24,22 @@ pub struct Counts {
 }
 
 // Whether v is in a register.
-pub fn is_held(owner: &[u32; MAX_REGISTERS], place: &[u32; MAX_REFERENCES], v: usize) -> bool
+pub fn is_held(owner: &[u16; MAX_REGISTERS], place: &[u16; MAX_REFERENCES], v: usize) -> bool
     requires { ⌜ v < maxReferences ⌝ }
     requires { ⌜ getD (now place) v 0 < maxRegisters ⌝ }
     ensures { λ r. ⌜ r ≡ eqb (getD (now (owner .entry)) (getD (now (place .entry)) v 0) 0) (suc v) ⌝ }
 {
-    owner[place[v] as usize] == v as u32 + 1
+    owner[place[v] as usize] == v as u16 + 1
 }
 
 // The register freed last, or else the lowest never used.
-fn next_register(freed: &[u32; MAX_REGISTERS], counts: Counts) -> u32
+fn next_register(freed: &[u16; MAX_REGISTERS], counts: Counts) -> u16
     requires { ⌜ counts .free ≤ maxRegisters ⌝ }
     requires { ⌜ counts .fresh ≤ maxRegisters ⌝ }
     ensures { λ r. ⌜ r ≡ first (eqb (counts .free) 0) (counts .fresh) (getD (now (freed .entry)) (counts .free - 1) 0) ⌝ }
 {
     if counts.free == 0 {
-        return counts.fresh as u32;
+        return counts.fresh as u16;
     }
     freed[counts.free - 1]
 }
@@ -65,9 +65,9 @@ fn counts_after(counts: Counts, written: usize) -> Counts
 
 // v, which is in no register, takes the next one, by the instruction that puts its value there.
 pub fn assign_register(
-    owner: &mut [u32; MAX_REGISTERS],
-    freed: &[u32; MAX_REGISTERS],
-    place: &mut [u32; MAX_REFERENCES],
+    owner: &mut [u16; MAX_REGISTERS],
+    freed: &[u16; MAX_REGISTERS],
+    place: &mut [u16; MAX_REFERENCES],
     buffer: &mut [u32],
     counts: Counts,
     v: usize,
@@ -84,17 +84,17 @@ pub fn assign_register(
         (assign v (λ d. operating opcode d a b) (allocationOf (now (owner .entry)) (now (freed .entry)) (now (buffer .entry)) counts)) ⌝ }
 {
     let d = next_register(freed, counts);
-    owner[d as usize] = v as u32 + 1;
+    owner[d as usize] = v as u16 + 1;
     place[v] = d;
-    write_instruction(buffer, counts.written, opcode, d, a, b);
+    write_instruction(buffer, counts.written, opcode, d as u32, a, b);
     counts_after(counts, counts.written + 1)
 }
 
 // The register of v is free from now on, unless v is to be kept.
 pub fn release(
-    owner: &mut [u32; MAX_REGISTERS],
-    freed: &mut [u32; MAX_REGISTERS],
-    place: &[u32; MAX_REFERENCES],
+    owner: &mut [u16; MAX_REGISTERS],
+    freed: &mut [u16; MAX_REGISTERS],
+    place: &[u16; MAX_REFERENCES],
     counts: Counts,
     keep: bool,
     v: usize,

@@ -31,7 +31,9 @@ returns c =
     conversion-short 19 3 isLine readLine _ _ _ v _ (ap (λ x. refused (x .number) (x .table)) (c .refuse .ensures)) (c .before .if1 .taken)
 
 read-lines-requires : tie.Need-read-lines-requires
-read-lines-requires c κs = omega (arith, valid (c .before .before) .whole .long)
+read-lines-requires c κs =
+    let v = valid (c .before .before) in
+    (omega (arith, v .whole .long), (v .right, c .before .if1 .left))
 
 enum-known-refusal : tie.Need-enum-known-refusal
 enum-known-refusal c = search needs

@@ -3,11 +3,11 @@ use mathlib.Core.Path.{refl, sym, ap, ap₂, _∙_}
 use mathlib.Core.Option.{none}
 use borrow.Author.Needs.{needs}
 use Rattle.lines.specs.declared.Refusal.{Refusal}
-use Rattle.lines.proofs.CheckLaws.{check-passed, Passed, passed, answer-gives, outcome-refused, outcome-gives}
+use Rattle.lines.proofs.CheckLaws.{check-passed, Passed, passed, outcome-refused, outcome-gives}
 use Rattle.circuit.proofs.RefusalLaws.{accepted-is-well-formed}
 use Rattle.rules.proofs.RefusalLaws.{accepted-rules-are-well-formed}
 use Rattle.rules.proofs.SiteLaws.{accepted-sites-are-well-formed}
-use Rattle.rewriting.specs.RewriteCall.{paperValues as rewrittenValues, outcomeOf, lent, rewriteChecks, rewriting}
+use Rattle.rewriting.specs.RewriteCall.{outcomeOf, lent, rewriteChecks, rewriting}
 use Rattle.rewriting.proofs.rewrite.Statement.{statement}
 use Rattle.rewriting.proofs.rewrite.Tie as tie
 

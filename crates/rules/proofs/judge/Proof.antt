@@ -5,6 +5,7 @@ use borrow.Author.Needs.{needs}
 use Rattle.lines.specs.Refusal.{gives}
 use Rattle.lines.proofs.CheckLaws.{found-here, answer-refused, answer-gives}
 use Rattle.rules.specs.JudgeCall.{judging}
+use Rattle.rules.proofs.JudgedLaws.{judged-verdict}
 use Rattle.rules.proofs.RefusalLaws.{accepted-rules-are-well-formed}
 use Rattle.rules.proofs.judge.Statement.{statement}
 use Rattle.rules.proofs.judge.Tie as tie
@@ -12,8 +13,8 @@ use Rattle.rules.proofs.judge.Tie as tie
 rules-refusal-requires : tie.Need-rules-refusal-requires
 rules-refusal-requires c κs = search needs
 
-judgement-requires : tie.Need-judgement-requires
-judgement-requires c κs = accepted-rules-are-well-formed _ .0 (sym (c .before .rules-refusal .ensures) ∙ c .match .keys1)
+judged-rule-requires : tie.Need-judged-rule-requires
+judged-rule-requires c κs = accepted-rules-are-well-formed _ .0 (sym (c .before .rules-refusal .ensures) ∙ c .match .keys1)
 
 refuse-requires : tie.Need-refuse-requires
 refuse-requires c κs = search needs
@@ -21,7 +22,7 @@ refuse-requires c κs = search needs
 returns : tie.Need-returns
 unfolding judging
 returns c =
-    ap (λ v. gives (v ∷ [])) (c .judgement .ensures) ∙ sym (answer-gives _ _ (sym (c .before .before .rules-refusal .ensures) ∙ c .before .match .keys1, tt))
+    ap (λ v. gives (v ∷ [])) (judged-verdict _ _ (c .judged-rule .result) (c .judged-rule .ensures)) ∙ sym (answer-gives _ _ (sym (c .before .before .rules-refusal .ensures) ∙ c .before .match .keys1, tt))
 
 returns-2 : tie.Need-returns-2
 unfolding judging
@@ -31,4 +32,4 @@ returns-2 c =
     sym (answer-refused _ _ (c .refuse .result) f (λ z. some (ap (λ r. r .number) (sym (c .refuse .ensures)) ∙ z)))
 
 pub judge-spec : {M : Type 1} → statement M
-judge-spec = tie.close (tie.spec rules-refusal-requires judgement-requires refuse-requires returns returns-2)
+judge-spec = tie.close (tie.spec rules-refusal-requires judged-rule-requires refuse-requires returns returns-2)

@@ -1,11 +1,11 @@
 -- Test by test: each return is one of the laws `refusal-..`, by the tests that were passed before.
-use mathlib.Core.Bool.{true, false, _&&_}
-use mathlib.Core.Path.{_≡_, sym, ap₂, _∙_}
+use mathlib.Core.Bool.{true, false}
+use mathlib.Core.Path.{_≡_, sym, _∙_}
 use borrow.Author.Needs.{needs}
 use borrow.Author.Tests.{not-true, not-false}
 use Rattle.lines.specs.Text.{isPartial}
 use Rattle.circuit.specs.WellFormed.{Sized}
-use Rattle.circuit.specs.Refusal.{headInLimits, linesAsHeadSays, gateKindsOk, closingKindsOk}
+use Rattle.circuit.specs.Refusal.{headInLimits, linesAsHeadSays}
 use Rattle.circuit.proofs.RefusalLaws.{sized-of, head-there, refusal-partial, refusal-head, refusal-lines, refusal-kinds, refusal-references, refusal-none}
 use Rattle.circuit.proofs.checking.refusal.Statement.{statement}
 use Rattle.circuit.proofs.checking.refusal.Tie as tie
@@ -22,9 +22,6 @@ lines c = sym (c .before .lines-as-head-says .ensures) ∙ not-false _ (c .if3 .
 
 sized : (c : tie.Else3) → Sized (c .before .before .before .before .before .before .before .args .t .now)
 sized c = sized-of _ (head (c .before .before)) (lines c)
-
-kinds : (c : tie.Else4) → gateKindsOk (c .before .before .before .before .before .before .before .before .before .before .args .t .now) && closingKindsOk (c .before .before .before .before .before .before .before .before .before .before .args .t .now) ≡ true
-kinds c = sym (ap₂ _&&_ (c .before .before .gate-kinds-ok .ensures) (c .before .closing-kinds-ok .ensures)) ∙ not-false _ (c .if4 .left)
 
 is-partial-requires : tie.Need-is-partial-requires
 is-partial-requires c κs = search needs
@@ -46,32 +43,25 @@ returns-3 c =
     let e = c .before .before in
     refusal-lines _ (whole (e .before .before)) (head e) (sym (c .before .lines-as-head-says .ensures) ∙ not-true _ (c .if3 .taken))
 
-gate-kinds-ok-requires : tie.Need-gate-kinds-ok-requires
-gate-kinds-ok-requires c κs = sized c
-
-closing-kinds-ok-requires : tie.Need-closing-kinds-ok-requires
-closing-kinds-ok-requires c κs = sized (c .before)
+test-lines-requires : tie.Need-test-lines-requires
+test-lines-requires c κs = sized c
 
 returns-4 : tie.Need-returns-4
 returns-4 c =
     let e = c .before .before .before in
-    refusal-kinds _ (whole (e .before .before .before .before)) (head (e .before .before)) (lines e) (sym (ap₂ _&&_ (c .before .before .gate-kinds-ok .ensures) (c .before .closing-kinds-ok .ensures)) ∙ not-true _ (c .if4 .taken))
-
-operands-ok-requires : tie.Need-operands-ok-requires
-operands-ok-requires c κs = sized (c .before .before .before)
-
-closing-references-ok-requires : tie.Need-closing-references-ok-requires
-closing-references-ok-requires c κs = sized (c .before .before .before .before)
+    refusal-kinds _ (whole (e .before .before .before .before)) (head (e .before .before)) (lines e) (sym (c .before .before .test-lines .ensures .0) ∙ not-true _ (c .if4 .taken))
 
 returns-5 : tie.Need-returns-5
 returns-5 c =
-    let e = c .before .before .before in
-    refusal-references _ (whole (e .before .before .before .before .before .before .before)) (head (e .before .before .before .before .before)) (lines (e .before .before .before)) (kinds e) (sym (ap₂ _&&_ (c .before .before .operands-ok .ensures) (c .before .closing-references-ok .ensures)) ∙ not-true _ (c .if5 .taken))
+    let w = c .before .before .before .before in
+    let e = w .before in
+    refusal-references _ (whole (e .before .before .before .before)) (head (e .before .before)) (lines e) (sym (w .test-lines .ensures .0) ∙ not-false _ (c .before .before .if4 .left)) (sym (w .test-lines .ensures .1) ∙ not-true _ (c .if5 .taken))
 
 returns-6 : tie.Need-returns-6
 returns-6 c =
-    let e = c .before .before .before in
-    refusal-none _ (whole (e .before .before .before .before .before .before .before)) (head (e .before .before .before .before .before)) (lines (e .before .before .before)) (kinds e) (sym (ap₂ _&&_ (c .before .before .operands-ok .ensures) (c .before .closing-references-ok .ensures)) ∙ not-false _ (c .if5 .left))
+    let w = c .before .before .before .before in
+    let e = w .before in
+    refusal-none _ (whole (e .before .before .before .before)) (head (e .before .before)) (lines e) (sym (w .test-lines .ensures .0) ∙ not-false _ (c .before .before .if4 .left)) (sym (w .test-lines .ensures .1) ∙ not-false _ (c .if5 .left))
 
 pub refusal-spec : {M : Type 1} → statement M
 refusal-spec =
@@ -83,10 +73,7 @@ refusal-spec =
     returns-2
     lines-as-head-says-requires
     returns-3
-    gate-kinds-ok-requires
-    closing-kinds-ok-requires
+    test-lines-requires
     returns-4
-    operands-ok-requires
-    closing-references-ok-requires
     returns-5
     returns-6)

@@ -1,12 +1,8 @@
--- Zeros, then the depths over them: law `depths-over`.
+-- Zeros, then the depths over them: laws `depths-none` and `depths-over`.
 use mathlib.Core.Path.{ap, _∙_}
-use Prim.Native.Nat.{ℕ}
-use lib.ListN.{take, replicate, length-replicate}
+use lib.ListN.{replicate}
 use Rattle.lines.specs.Calls.{over}
-use Rattle.circuit.specs.Table.{inputs}
-use Rattle.circuit.specs.Circuit.{firstGate}
-use Rattle.circuit.proofs.DepthLaws.{depths-over}
-use Rattle.circuit.proofs.BufferLaws.{over-take}
+use Rattle.circuit.proofs.DepthLaws.{depths-none, depths-over}
 use borrow.Author.Needs.{needs}
 use Rattle.circuit.proofs.depth.depths.Statement.{statement}
 use Rattle.circuit.proofs.depth.depths.Tie as tie
@@ -20,17 +16,20 @@ cast-clear c = search needs
 clear-requires : tie.Need-clear-requires
 clear-requires c κs = search needs
 
-append-depths-requires : tie.Need-append-depths-requires
-append-depths-requires c κs =
+depths-from-requires : tie.Need-depths-from-requires
+depths-from-requires c κs =
     let s = c .before .before .before .before .before .before .before .before in
-    let m = firstGate (inputs (s .args .t .now)) in
-    (s .pre .0, (search needs, ap (take m) (c .before .before .before .clear .ensures ∙ ap (λ n. over (replicate n 0) (s .args .d .now)) (c .before .before .before .before .first-gate .ensures)) ∙ over-take (replicate m 0) _ m (length-replicate {A = ℕ} m 0)))
+    let zeros = c .before .before .before .clear .ensures ∙ ap (λ n. over (replicate n 0) (s .args .d .now)) (c .before .before .before .before .first-gate .ensures) in
+    (s .pre .0, (search needs, (search needs, depths-none (s .args .t .now) (s .args .d .now) _ zeros)))
 
 same-length : tie.Need-same-length
 same-length c = search needs
 
 returns : tie.Need-returns
-returns c = depths-over (c .before .before .before .before .before .before .before .before .before .before .before .args .t .now) (c .before .before .before .before .before .before .before .before .before .before .before .args .d .now) _ _ (c .before .before .before .before .before .before .clear .ensures ∙ ap (λ n. over (replicate n 0) (c .before .before .before .before .before .before .before .before .before .before .before .args .d .now)) (c .before .before .before .before .before .before .before .first-gate .ensures)) (c .before .before .append-depths .ensures)
+returns c =
+    let s = c .before .before .before .before .before .before .before .before .before .before .before in
+    let zeros = c .before .before .before .before .before .before .clear .ensures ∙ ap (λ n. over (replicate n 0) (s .args .d .now)) (c .before .before .before .before .before .before .before .first-gate .ensures) in
+    depths-over (s .args .t .now) (s .args .d .now) _ zeros _ (c .before .before .depths-from .ensures)
 
 pub depths-spec : {M : Type 1} → statement M
 depths-spec =
@@ -39,6 +38,6 @@ depths-spec =
     first-gate-requires
     cast-clear
     clear-requires
-    append-depths-requires
+    depths-from-requires
     same-length
     returns)

@@ -15,19 +15,19 @@ slice-read-larger c = search needs
 larger-requires : tie.Need-larger-requires
 larger-requires c κs = search needs
 
-mul-d : tie.Need-mul-d
-mul-d c = search needs
+mul-u : tie.Need-mul-u
+mul-u c = search needs
 
-slice-write-d : tie.Need-slice-write-d
-slice-write-d c = search needs
+slice-write-u : tie.Need-slice-write-u
+slice-write-u c = search needs
 
 same-length : tie.Need-same-length
 same-length c = search needs
 
 returns : tie.Need-returns
-returns c = ap (set (c .before .before .before .args .d .now) (c .before .before .before .args .v)) (c .larger .ensures)
+returns c = ap (set (c .before .before .before .args .u .now) (c .before .before .before .args .v)) (c .larger .ensures)
 
 pub raise-place-spec : {M : Type 1} → statement M
 raise-place-spec =
     tie.close
-    (tie.spec mul-larger slice-read-larger larger-requires mul-d slice-write-d same-length returns)
+    (tie.spec mul-larger slice-read-larger larger-requires mul-u slice-write-u same-length returns)

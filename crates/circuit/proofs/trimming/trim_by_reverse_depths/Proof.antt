@@ -1,38 +1,73 @@
--- Rests on `rank_references` and `write_trimmed` alone.
+-- The three parts make the table: laws `trim-stores` and `trim-end`.
+use mathlib.Core.Path.{_∙_}
+use native.Mathlib.Omega.{arith}
+use lib.ListN.{length}
+use Rattle.circuit.proofs.TrimmingLaws.{closings-room, trim-stores, trim-end}
 use borrow.Author.Needs.{needs}
 use Rattle.circuit.proofs.trimming.trim_by_reverse_depths.Statement.{statement}
 use Rattle.circuit.proofs.trimming.trim_by_reverse_depths.Tie as tie
 
-slice-aggregate-rank-references : tie.Need-slice-aggregate-rank-references
-slice-aggregate-rank-references c = search needs
+write-gates-requires : tie.Need-write-gates-requires
+write-gates-requires c κs = search needs
 
-rank-references-requires : tie.Need-rank-references-requires
-rank-references-requires c κs =
-    let p = c .before .before .before .before .pre in
-    (p .0, (p .1 .0, (search needs, p .1 .1 .0)))
+gates-from-requires : tie.Need-gates-from-requires
+gates-from-requires c κs = search needs
 
-slice-aggregate-write-trimmed : tie.Need-slice-aggregate-write-trimmed
-slice-aggregate-write-trimmed c = search needs
+cast-closings : tie.Need-cast-closings
+cast-closings c = search needs
 
-write-trimmed-requires : tie.Need-write-trimmed-requires
-write-trimmed-requires c κs =
-    let p = c .before .before .before .before .before .before .before .before .pre in
-    let ranked = c .before .before .before .rank-references .ensures in
-    (p .0, (p .1 .0, (search needs, (p .1 .1 .0, (ranked .1, (ranked .0, p .1 .1 .1))))))
+mul-closings : tie.Need-mul-closings
+mul-closings c = search needs
+
+add-closings : tie.Need-add-closings
+add-closings c = search needs
+
+write-closings-requires : tie.Need-write-closings-requires
+write-closings-requires c κs =
+    let s = c .before .before .before .before .before .before .before .before .before .before .before .before .before .before in
+    let w = c .before .before .before .before .before .before .before .write-gates in
+    let room = closings-room (s .args .t .now) (c .before .before .gates-from .result) (w .result) (c .before .before .gates-from .ensures) (w .ensures .0) (length (s .args .out .now)) (s .pre .1 .1 .1 .1) in
+    (s .pre .0, (search needs, (w .ensures .1 .0, omega (arith, room, w .kept .1 .1 .1 .0))))
+
+shared-slice-read-write-row : tie.Need-shared-slice-read-write-row
+shared-slice-read-write-row c = search needs
+
+shared-slice-read-write-row-2 : tie.Need-shared-slice-read-write-row-2
+shared-slice-read-write-row-2 c = search needs
+
+write-row-requires : tie.Need-write-row-requires
+write-row-requires c κs = search needs
 
 same-length : tie.Need-same-length
 same-length c = search needs
 
+same-length-2 : tie.Need-same-length-2
+same-length-2 c = search needs
+
 returns : tie.Need-returns
-returns c = search needs
+returns c =
+    let s = c .before .before .before .before .before .before .before .before .before .before .before .before .before .before .before .before .before .before .before .before .before .before .before in
+    let t = s .args .t .now in
+    let w = c .before .before .before .before .before .before .before .before .before .before .before .before .before .before .before .before .write-gates in
+    let from = c .before .before .before .before .before .before .before .before .before .before .before .gates-from in
+    let closed = c .before .before .before .before .before .before .before .before .write-closings .ensures in (
+      trim-stores t (from .result) (w .result) (from .ensures) (w .ensures .0) (s .args .out .now) _ _ _ (s .pre .1 .1 .1 .1) (w .ensures .1 .1) (closed .0) (c .before .before .write-row .ensures),
+      closed .1 ∙ trim-end t (from .result) (w .result) (from .ensures) (w .ensures .0),
+    )
 
 pub trim-by-reverse-depths-spec : {M : Type 1} → statement M
 trim-by-reverse-depths-spec =
     tie.close
     (tie.spec
-    slice-aggregate-rank-references
-    rank-references-requires
-    slice-aggregate-write-trimmed
-    write-trimmed-requires
+    write-gates-requires
+    gates-from-requires
+    cast-closings
+    mul-closings
+    add-closings
+    write-closings-requires
+    shared-slice-read-write-row
+    shared-slice-read-write-row-2
+    write-row-requires
     same-length
+    same-length-2
     returns)

@@ -1,27 +1,27 @@
--- Laws of `GatesTo`: the lines of the gates before gate i that are kept are there.
+-- Laws of `GatesTo`: the lines of the gates before gate i that are kept are there, and the new numbers up to its own.
 use mathlib.Core.Path.{ap}
-use Prim.Native.Nat.{_+_, _*_, _-_, _≤_}
+use Prim.Native.Nat.{_+_, _-_, _≤_}
 use native.Mathlib.Omega.{arith}
-use Rattle.circuit.specs.Table.{gatesFrom}
-use Rattle.circuit.proofs.TrimmingLaws.{GatesTo, gates-none, gates-kept, gates-gone, gates-all}
+use lib.ListN.{length-set}
+use Rattle.circuit.proofs.TrimmingLaws.{GatesTo, gates-none, gates-named, gates-kept, gates-gone, gates-all}
 use borrow.Author.Needs.{needs}
 use Rattle.circuit.proofs.trimming.write_gates.Statement.{statement}
 use Rattle.circuit.proofs.trimming.write_gates.Tie as tie
 
 abbrev Inv-loop : tie.InvT-loop
-Inv-loop t u names out₀ from first gates at₀ i₀ out at i = (i ≤ gates) × (at ≤ gatesFrom t + 3 * i) × GatesTo t out₀ out at i
+Inv-loop t u names₀ out₀ from first gates kept₀ i₀ names out kept i = (i ≤ gates) × GatesTo t names₀ names out₀ out kept i
 
 abbrev μ-loop : tie.MeasureT-loop
-μ-loop t u names out₀ from first gates at₀ i₀ out at i = gates - i
+μ-loop t u names₀ out₀ from first gates kept₀ i₀ names out kept i = gates - i
+
+name-inputs-requires : tie.Need-name-inputs-requires Inv-loop μ-loop
+name-inputs-requires c κs = search needs
 
 gates-from-requires : tie.Need-gates-from-requires Inv-loop μ-loop
 gates-from-requires c κs = search needs
 
 first-gate-requires : tie.Need-first-gate-requires Inv-loop μ-loop
 first-gate-requires c κs = search needs
-
-cast-first : tie.Need-cast-first Inv-loop μ-loop
-cast-first c = search needs
 
 shared-slice-read-gates : tie.Need-shared-slice-read-gates Inv-loop μ-loop
 shared-slice-read-gates c = search needs
@@ -30,10 +30,24 @@ cast-gates : tie.Need-cast-gates Inv-loop μ-loop
 cast-gates c = search needs
 
 loop-holds : tie.Need-loop-holds Inv-loop μ-loop
-loop-holds c = (search needs, search needs, gates-none (c .before .before .before .before .before .before .before .args .t .now) (c .before .before .before .before .before .before .before .args .out .now) _ (c .before .before .gates-from .ensures))
+loop-holds c =
+    let s = c .before .before .before .before .before .before .before .before .before .before .before in
+    (search needs, gates-none (s .args .t .now) _ (s .args .out .now) (c .before .before .before .before .before .name-inputs .ensures))
 
-add-if1 : tie.Need-add-if1 Inv-loop μ-loop
-add-if1 c = search needs
+cast-own : tie.Need-cast-own Inv-loop μ-loop
+cast-own c = search needs
+
+add-own : tie.Need-add-own Inv-loop μ-loop
+add-own c = search needs
+
+add-names : tie.Need-add-names Inv-loop μ-loop
+add-names c = search needs
+
+mul-names : tie.Need-mul-names Inv-loop μ-loop
+mul-names c = search needs
+
+slice-write-names : tie.Need-slice-write-names Inv-loop μ-loop
+slice-write-names c = search needs
 
 mul-if1 : tie.Need-mul-if1 Inv-loop μ-loop
 mul-if1 c = search needs
@@ -41,14 +55,25 @@ mul-if1 c = search needs
 shared-slice-read-if1 : tie.Need-shared-slice-read-if1 Inv-loop μ-loop
 shared-slice-read-if1 c = search needs
 
+cast-write-gate : tie.Need-cast-write-gate Inv-loop μ-loop
+cast-write-gate c = search needs
+
+mul-write-gate : tie.Need-mul-write-gate Inv-loop μ-loop
+mul-write-gate c = search needs
+
+add-write-gate : tie.Need-add-write-gate Inv-loop μ-loop
+add-write-gate c = search needs
+
 write-gate-requires : tie.Need-write-gate-requires Inv-loop μ-loop
 write-gate-requires c κs =
-    let l = c .before .before .before .before .loop in
-    let s = c .before .before .before .before .before .before .before .before .before .before .before .before in
-    (s .pre .0, (search needs, (search needs, (search needs, (s .pre .1 .1 .1 .1 .0, omega (arith, l .inv .1, l .inv .2 .long, s .pre .1 .1 .1 .1 .1, c .before .before .before .loop-test .taken))))))
+    let l = c .before .before .before .before .before .loop in
+    let s = c .before .before .before .before .before .before .before .before .before .before .before .before .before .before .before .before .before in
+    let named = gates-named (s .args .t .now) (c .before .before .before .before .before .before .before .before .before .before .before .name-inputs .last .1 .0) (s .args .out .now) (l .names) (l .out) (l .kept) (l .i) (l .inv .1) (s .args .u .now) (s .pre .1 .1 .0) (search needs) (c .before .before .before .before .loop-test .taken)
+    _ (ap (λ m. m + l .i) (c .before .before .before .before .before .before .before .first-gate .ensures)) _ (ap (λ m. m + l .kept) (c .before .before .before .before .before .before .before .first-gate .ensures)) in
+    (s .pre .0, (search needs, (search needs, (simp length-set (omega (arith, l .inv .1 .names-long, c .before .before .before .before .before .before .before .before .before .before .before .name-inputs .kept .1 .0, s .pre .1 .1 .1 .0)), (named, omega (arith, l .inv .1 .few, l .inv .1 .lines .long, s .pre .1 .1 .1 .1, c .before .before .before .before .loop-test .taken, c .before .before .before .before .before .before .before .before .gates-from .ensures))))))
 
-add-at : tie.Need-add-at Inv-loop μ-loop
-add-at c = search needs
+add-kept : tie.Need-add-kept Inv-loop μ-loop
+add-kept c = search needs
 
 add-i : tie.Need-add-i Inv-loop μ-loop
 add-i c = search needs
@@ -58,12 +83,12 @@ loop-less c = search needs
 
 loop-again : tie.Need-loop-again Inv-loop μ-loop
 loop-again c =
-    let l = c .before .before .before .before .before .before .before .loop in
-    let s = c .before .before .before .before .before .before .before .before .before .before .before .before .before .before .before in (
+    let l = c .before .before .before .before .before .before .before .before .loop in
+    let s = c .before .before .before .before .before .before .before .before .before .before .before .before .before .before .before .before .before .before .before .before in (
       search needs,
-      search needs,
-      gates-kept (s .args .t .now) (s .args .out .now) (l .out) (l .at) (l .i) (l .inv .2) (s .args .u .now) (s .pre .1 .1 .1 .0) (c .before .before .before .before .before .before .loop-test .taken) _ (ap (λ m. m + l .i) (c .before .before .before .before .before .before .before .before .before .first-gate .ensures))
-          (c .before .before .before .before .if1 .taken) _ (c .before .before .write-gate .ensures),
+      gates-kept (s .args .t .now) (c .before .before .before .before .before .before .before .before .before .before .before .before .before .before .name-inputs .last .1 .0) (s .args .out .now) (l .names) (l .out) (l .kept) (l .i) (l .inv .1) (s .args .u .now) (s .pre .1 .1 .0) (search needs) (c .before .before .before .before .before .before .before .loop-test .taken)
+          _ (ap (λ m. m + l .i) (c .before .before .before .before .before .before .before .before .before .before .first-gate .ensures)) _ (ap (λ m. m + l .kept) (c .before .before .before .before .before .before .before .before .before .before .first-gate .ensures))
+          (c .before .before .before .before .before .if1 .taken) _ (c .before .before .before .before .before .before .before .before .before .before .before .gates-from .ensures) _ (c .before .before .write-gate .ensures),
     )
 
 add-i-2 : tie.Need-add-i-2 Inv-loop μ-loop
@@ -75,19 +100,25 @@ loop-less-2 c = search needs
 loop-again-2 : tie.Need-loop-again-2 Inv-loop μ-loop
 loop-again-2 c =
     let l = c .before .before .before .loop in
-    let s = c .before .before .before .before .before .before .before .before .before .before .before in (
+    let s = c .before .before .before .before .before .before .before .before .before .before .before .before .before .before .before in (
       search needs,
-      search needs,
-      gates-gone (s .args .t .now) (s .args .out .now) (l .out) (l .at) (l .i) (l .inv .2) (s .args .u .now) (s .pre .1 .1 .1 .0) (c .before .before .loop-test .taken) _ (ap (λ m. m + l .i) (c .before .before .before .before .before .first-gate .ensures)) (c .if1 .left),
+      gates-gone (s .args .t .now) (c .before .before .before .before .before .before .before .before .before .name-inputs .last .1 .0) (s .args .out .now) (l .names) (l .out) (l .kept) (l .i) (l .inv .1) (s .args .u .now) (s .pre .1 .1 .0) (search needs) (c .before .before .loop-test .taken)
+          _ (ap (λ m. m + l .i) (c .before .before .before .before .before .first-gate .ensures)) _ (ap (λ m. m + l .kept) (c .before .before .before .before .before .first-gate .ensures))
+          (c .if1 .left),
     )
 
 same-length : tie.Need-same-length Inv-loop μ-loop
 same-length c = search needs
 
+same-length-2 : tie.Need-same-length-2 Inv-loop μ-loop
+same-length-2 c = search needs
+
 returns : tie.Need-returns Inv-loop μ-loop
 returns c =
     let l = c .before .loop in
-    gates-all (c .before .before .before .before .before .before .before .before .before .args .t .now) (c .before .before .before .before .before .before .before .before .before .args .out .now) (l .out) (l .at) (l .i) (l .inv .2) (c .loop-test .left)
+    let s = c .before .before .before .before .before .before .before .before .before .before .before .before .before in
+    let all = gates-all (s .args .t .now) _ (s .args .out .now) (l .names) (l .out) (l .kept) (l .i) (l .inv .1) (l .inv .0) (c .loop-test .left) in
+    (all .0, (all .1, all .2))
 
 pub write-gates-spec : {M : Type 1} → statement M
 write-gates-spec =
@@ -95,17 +126,24 @@ write-gates-spec =
     (tie.spec
     Inv-loop
     μ-loop
+    name-inputs-requires
     gates-from-requires
     first-gate-requires
-    cast-first
     shared-slice-read-gates
     cast-gates
     loop-holds
-    add-if1
+    cast-own
+    add-own
+    add-names
+    mul-names
+    slice-write-names
     mul-if1
     shared-slice-read-if1
+    cast-write-gate
+    mul-write-gate
+    add-write-gate
     write-gate-requires
-    add-at
+    add-kept
     add-i
     loop-less
     loop-again
@@ -113,4 +151,5 @@ write-gates-spec =
     loop-less-2
     loop-again-2
     same-length
+    same-length-2
     returns)

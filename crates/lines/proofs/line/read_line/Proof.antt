@@ -1,4 +1,4 @@
--- By the definition of `readLine`: three stores, each of what `read_number` gives.
+-- By the definition of `readLine`: three stores, each of what `read_number` gives, which the line has numbers for (`line-numbers`).
 use native.Mathlib.Omega.{arith}
 use native.Mathlib.Numerals.{add-one}
 use lib.Seq.{drop-drop}
@@ -6,11 +6,12 @@ use lib.ListN.{length-set}
 use borrow.Author.Needs.{needs}
 use Rattle.lists.proofs.Stores.{add-two}
 use Rattle.lines.specs.Line.{readLine}
+use Rattle.lines.proofs.LineLaws.{line-numbers}
 use Rattle.lines.proofs.line.read_line.Statement.{statement}
 use Rattle.lines.proofs.line.read_line.Tie as tie
 
 read-number-requires : tie.Need-read-number-requires
-read-number-requires c κs = search needs
+read-number-requires c κs = let s = c .before .before in let k = line-numbers (s .args .text .now) (s .args .at) (s .pre .0) (s .pre .1 .0) in (omega arith, cc)
 
 mul-table : tie.Need-mul-table
 mul-table c = search needs
@@ -22,7 +23,7 @@ add-read-number : tie.Need-add-read-number
 add-read-number c = search needs
 
 read-number-requires-2 : tie.Need-read-number-requires-2
-read-number-requires-2 c κs = search needs
+read-number-requires-2 c κs = let s = c .before .before .before in let k = line-numbers (s .args .text .now) (s .args .at) (s .pre .0) (s .pre .1 .0) in (omega arith, cc)
 
 add-table : tie.Need-add-table
 add-table c = search needs
@@ -37,7 +38,7 @@ add-read-number-2 : tie.Need-add-read-number-2
 add-read-number-2 c = search needs
 
 read-number-requires-3 : tie.Need-read-number-requires-3
-read-number-requires-3 c κs = search needs
+read-number-requires-3 c κs = let s = c .before .before .before .before in let k = line-numbers (s .args .text .now) (s .args .at) (s .pre .0) (s .pre .1 .0) in (omega arith, cc)
 
 add-table-2 : tie.Need-add-table-2
 add-table-2 c = search needs

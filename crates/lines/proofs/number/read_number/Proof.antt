@@ -1,8 +1,6 @@
--- By the definition of `readNumber`; no sum is too large, as a column adds at most 207.
-use native.Mathlib.Nat.{add-zero}
-use lib.Seq.{getD-drop}
+-- Law `number-low-at`: in columns that are a number the low half of each byte is what it adds. So no sum is too large.
 use borrow.Author.Needs.{needs}
-use Rattle.lines.specs.Number.{readNumber}
+use Rattle.lines.proofs.NumberLaws.{number-low-at}
 use Rattle.lines.proofs.number.read_number.Statement.{statement}
 use Rattle.lines.proofs.number.read_number.Tie as tie
 
@@ -88,8 +86,10 @@ add-result-5 : tie.Need-add-result-5
 add-result-5 c = search needs
 
 returns : tie.Need-returns
-unfolding readNumber
-returns c = simp (getD-drop, add-zero) (cc)
+returns c =
+    let s = c .before .before .before .before .before .before .before .before .before .before .before .before .before in
+    rw (c .before .before .before .before .before .before .before .before .before .before .column-value .ensures, c .before .before .before .before .before .before .before .before .column-value2 .ensures, c .before .before .before .before .before .before .column-value3 .ensures, c .before .before .before .before .column-value4 .ensures, c .before .before .column-value5 .ensures, c .column-value6 .ensures)
+    (number-low-at (s .args .text .now) (s .args .at) (s .pre .0) (s .pre .1))
 
 pub read-number-spec : {M : Type 1} → statement M
 read-number-spec =

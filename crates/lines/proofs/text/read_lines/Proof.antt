@@ -3,8 +3,8 @@ use mathlib.Core.Path.{_≡_}
 use Prim.Native.Nat.{_≤_, _-_, zero-le}
 use native.Mathlib.Omega.{arith}
 use borrow.Author.Needs.{needs}
-use Rattle.lists.proofs.Records.{Mapped, mapped-none, mapped-more}
-use Rattle.lines.specs.Line.{readLine}
+use Rattle.lists.proofs.Records.{all-at, Mapped, mapped-none, mapped-more}
+use Rattle.lines.specs.Line.{isLine, readLine}
 use Rattle.lines.proofs.LineLaws.{row-length}
 use Rattle.lines.proofs.text.read_lines.Statement.{statement}
 use Rattle.lines.proofs.text.read_lines.Tie as tie
@@ -25,7 +25,9 @@ mul-read-line-2 : tie.Need-mul-read-line-2 Inv-loop μ-loop
 mul-read-line-2 c = search needs
 
 read-line-requires : tie.Need-read-line-requires Inv-loop μ-loop
-read-line-requires c κs = search needs
+read-line-requires c κs =
+    let s = c .before .before .before .before .before in
+    (omega arith, (all-at isLine 19 (c .before .before .loop .i) (s .args .lines) (s .args .text .now) (omega arith) (s .pre .1 .0), omega arith))
 
 add-i : tie.Need-add-i Inv-loop μ-loop
 add-i c = search needs

@@ -4,7 +4,6 @@ use Prim.Native.Nat.{ℕ}
 use native.Mathlib.Omega.{arith}
 use lib.ListN.{length-replicate}
 use borrow.Author.Needs.{needs}
-use Rattle.lines.specs.Text.{isTable}
 use Rattle.lines.proofs.CallLaws.{whole-is}
 use Rattle.circuit.specs.Circuit.{maxTable}
 use Rattle.rules.specs.SiteTable.{siteCount, maxSites}
@@ -61,7 +60,7 @@ write-listing-requires c κs =
       omega (arith, w .line-limit, w .site-limit, r .kept .1 .1 .1 .0, length-replicate {A = ℕ} listingNumbers 0),
       (
         omega (arith, w .site-limit, r .kept .1 .1 .1 .1 .1 .0, length-replicate {A = ℕ} maxSites 0),
-        (w .site-limit, (ap isTable (w .numbers) ∙ w .writable, omega (arith, w .line-limit, w .site-limit, s .pre .1 .1 .1))),
+        (w .site-limit, omega (arith, w .line-limit, w .site-limit, s .pre .1 .1 .1)),
       ),
     )
 

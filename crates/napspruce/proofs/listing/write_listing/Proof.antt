@@ -1,5 +1,5 @@
 -- The summary and the verdicts are stored behind the circuit's lines, and the whole is written: laws `listing-length` and `listing-written` of WriteLaws.
-use mathlib.Core.Path.{_≡_, refl, sym}
+use mathlib.Core.Path.{_≡_}
 use Prim.Native.Nat.{_+_, _*_}
 use native.Mathlib.Omega.{arith}
 use lib.ListN.{length, take}
@@ -24,29 +24,14 @@ add-write-verdicts c = search needs
 write-verdicts-requires : tie.Need-write-verdicts-requires
 write-verdicts-requires c κs = search needs
 
-add-end : tie.Need-add-end
-add-end c = search needs
+add-rows : tie.Need-add-rows
+add-rows c = search needs
 
-mul-end : tie.Need-mul-end
-mul-end c = search needs
+add-rows-2 : tie.Need-add-rows-2
+add-rows-2 c = search needs
 
-add-end-2 : tie.Need-add-end-2
-add-end-2 c = search needs
-
-slice-reshare-prefix-write : tie.Need-slice-reshare-prefix-write
-slice-reshare-prefix-write c = search needs
-
-slice-aggregate-write : tie.Need-slice-aggregate-write
-slice-aggregate-write c = sym (length-take-le _ _ (slice-reshare-prefix-write (c .before)))
-
-write-requires : tie.Need-write-requires
-write-requires c κs = search needs
-
-add-result : tie.Need-add-result
-add-result c = search needs
-
-add-result-2 : tie.Need-add-result-2
-add-result-2 c = search needs
+write-lines-requires : tie.Need-write-lines-requires
+write-lines-requires c κs = search needs
 
 mul-result : tie.Need-mul-result
 mul-result c = search needs
@@ -66,13 +51,11 @@ returns c =
     let count = a .s .sites in
     let vs = take count (a .verdicts .now) in
     let some : length vs ≡ count = length-take-le count (a .verdicts .now) (s .pre .1 .0) in
-    let n = a .lines + 3 + count in
-    let three : 3 * a .lines + 9 + 3 * count ≡ 3 * n = omega arith in
-    let end = 3 * a .lines + 9 + 3 * count in (
-      listing-length (a .table .now) (w1 .last .0) (w2 .last .0) (3 * a .lines) count end (a .s) vs (s .pre .0) some refl (w1 .ensures) (w2 .ensures) n three (a .listing .now)
-          (s .pre .1 .1 .1 .0) (s .pre .1 .1 .1 .1),
-      listing-written (a .table .now) (w1 .last .0) (w2 .last .0) (3 * a .lines) count end (a .s) vs (s .pre .0) some refl (w1 .ensures) (w2 .ensures) n three (a .listing .now)
-          (s .pre .1 .1 .1 .0) (s .pre .1 .1 .1 .1) _ _ (c .before .before .write .ensures),
+    let rows = a .lines + 3 + count in
+    let three : 3 * rows ≡ 3 * a .lines + 9 + 3 * count = omega arith in (
+      listing-length (a .table .now) (w1 .last .0) (w2 .last .0) (3 * a .lines) count rows (a .s) vs (s .pre .0) some three (w1 .ensures) (w2 .ensures),
+      listing-written (a .table .now) (w1 .last .0) (w2 .last .0) (3 * a .lines) count rows (a .s) vs (s .pre .0) some three (w1 .ensures) (w2 .ensures) (a .listing .now) _
+          (c .before .before .write-lines .ensures),
     )
 
 pub write-listing-spec : {M : Type 1} → statement M
@@ -84,14 +67,9 @@ write-listing-spec =
     write-summary-requires
     add-write-verdicts
     write-verdicts-requires
-    add-end
-    mul-end
-    add-end-2
-    slice-reshare-prefix-write
-    slice-aggregate-write
-    write-requires
-    add-result
-    add-result-2
+    add-rows
+    add-rows-2
+    write-lines-requires
     mul-result
     same-length
     same-length-2

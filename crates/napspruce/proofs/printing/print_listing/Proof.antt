@@ -1,11 +1,11 @@
--- The two answers of `list`: laws `printed-listing` and `printed-refusal` of ListingTheorems; a refusal's numbers have at most six digits by `refused-small`.
+-- The two answers of `list`: laws `printed-listing` and `printed-refusal` of ListingTheorems.
 use mathlib.Core.Path.{sym, ap, _∙_}
 use Prim.Native.Nat.{_≤_}
 use lib.ListN.{length}
 use borrow.Author.Needs.{needs}
 use Rattle.lines.specs.Refusal.{leaving}
 use Rattle.napspruce.specs.ListingCall.{paperValues as listedValues, maxListing}
-use Rattle.napspruce.proofs.ListingTheorems.{printed-listing, refused-small, printed-refusal}
+use Rattle.napspruce.proofs.ListingTheorems.{printed-listing, printed-refusal}
 use Rattle.napspruce.proofs.printing.print_listing.Statement.{statement}
 use Rattle.napspruce.proofs.printing.print_listing.Tie as tie
 
@@ -19,11 +19,7 @@ enum-known-refusal : tie.Need-enum-known-refusal
 enum-known-refusal c = search needs
 
 write-refusal-requires : tie.Need-write-refusal-requires
-write-refusal-requires c κs =
-    let a = c .before .before .before .before .before .before .before .before .before .args in
-    let l = c .before .before .before .before .list in
-    let q = ap (λ x. leaving (listedValues x) (l .last .1 .1 .1 .0)) (sym (c .before .before .refusal .given .1)) ∙ l .ensures in
-    (refused-small (a .circuit .now) (a .rules .now) (a .sites .now) (a .out .now) _ _ (l .last .1 .1 .1 .0) q, search needs)
+write-refusal-requires c κs = search needs
 
 returns : tie.Need-returns
 returns c =

@@ -4,11 +4,11 @@ use Rattle.napspruce.proofs.WriteLaws.{refusal-length, refusal-written}
 use Rattle.napspruce.proofs.printing.write_refusal.Statement.{statement}
 use Rattle.napspruce.proofs.printing.write_refusal.Tie as tie
 
-slice-aggregate-write : tie.Need-slice-aggregate-write
-slice-aggregate-write c = search needs
+slice-aggregate-write-lines : tie.Need-slice-aggregate-write-lines
+slice-aggregate-write-lines c = search needs
 
-write-requires : tie.Need-write-requires
-write-requires c κs = search needs
+write-lines-requires : tie.Need-write-lines-requires
+write-lines-requires c κs = search needs
 
 same-length : tie.Need-same-length
 same-length c = search needs
@@ -17,7 +17,7 @@ returns : tie.Need-returns
 returns c =
     let s = c .before .before .before .before .before .before in
     let r = s .args .refusal in
-    (refusal-length (r .number) (r .table), refusal-written (r .number) (r .table) (s .pre .0 .0) (s .pre .0 .1) (s .args .out .now) (s .pre .1) _ _ (c .before .before .write .ensures))
+    (refusal-length (r .number) (r .table), refusal-written (r .number) (r .table) (s .args .out .now) _ (c .before .before .write-lines .ensures))
 
 pub write-refusal-spec : {M : Type 1} → statement M
-write-refusal-spec = tie.close (tie.spec slice-aggregate-write write-requires same-length returns)
+write-refusal-spec = tie.close (tie.spec slice-aggregate-write-lines write-lines-requires same-length returns)

@@ -1,5 +1,5 @@
 -- Five parts make the table: laws `replace-stores`, `replace-over` and `replace-end`; what was read of the right side is within its limits.
-use mathlib.Core.Path.{_≡_, ap, _∙_}
+use mathlib.Core.Path.{_≡_, _∙_}
 use mathlib.Core.Bool.{true}
 use Prim.Native.Nat.{_-_}
 use native.Mathlib.Omega.{arith}

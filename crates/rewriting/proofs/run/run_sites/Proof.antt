@@ -8,9 +8,11 @@ use borrow.Author.Needs.{needs}
 use Rattle.lists.proofs.Below.{below-length}
 use Rattle.lists.proofs.Written.{Written, written-none, written-more}
 use Rattle.circuit.specs.Circuit.{maxTable}
-use Rattle.rules.specs.SiteTable.{siteCount, sitesFrom, siteAt}
+use Rattle.rules.specs.Remembered.{Remembered}
+use Rattle.rules.specs.SiteTable.{siteCount, maxSites, sitesFrom, siteAt}
+use Rattle.rules.proofs.JudgedLaws.{remembered-none}
 use Rattle.rewriting.specs.Run.{State, Step, step, afterSites, verdictAt, verdictsOf}
-use Rattle.rewriting.specs.RunState.{stateOf, stepOf, Held}
+use Rattle.rewriting.specs.RunState.{stateOf, stepOf, Held, DepthsHeld}
 use Rattle.rewriting.proofs.FrontLaws.{written-over}
 use Rattle.rewriting.proofs.RunLaws.{after-none, kept-limit}
 use Rattle.rewriting.proofs.RunStateLaws.{turn-state, turn-verdict, turn-limit}
@@ -18,12 +20,14 @@ use Rattle.rewriting.proofs.run.run_sites.Statement.{statement}
 use Rattle.rewriting.proofs.run.run_sites.Tie as tie
 
 abbrev Inv-loop : tie.InvT-loop
-Inv-loop rules sites work₀ verdicts₀ candidate₀ run₀ count from i₀ work verdicts candidate run i =
+Inv-loop rules sites depths₀ reverse₀ current₀ work₀ verdicts₀ known₀ candidate₀ run₀ count from i₀ depths reverse current work verdicts known candidate run i =
     (i ≤ count) × (length work ≡ length work₀) × (length candidate ≡ maxTable) × Held run work
     × (stateOf run work ≡ afterSites rules sites (stateOf run₀ work₀) i) × Written (verdictsOf rules sites (stateOf run₀ work₀) count) verdicts₀ verdicts i
+    × Remembered rules known × (length depths ≡ length depths₀) × (length reverse ≡ length reverse₀) × (length current ≡ length current₀) × DepthsHeld run work current
 
 abbrev μ-loop : tie.MeasureT-loop
-μ-loop rules sites work₀ verdicts₀ candidate₀ run₀ count from i₀ work verdicts candidate run i = count - i
+μ-loop rules sites depths₀ reverse₀ current₀ work₀ verdicts₀ known₀ candidate₀ run₀ count from i₀ depths reverse current work verdicts known candidate run i =
+    count - i
 
 -- the site that was read where the sites were found to begin
 read-site : (rules sites : List ℕ) (s : State) (i from : ℕ) → from ≡ sitesFrom sites → (x : Step)
@@ -43,9 +47,9 @@ sites-from-requires c κs = search needs
 
 loop-holds : tie.Need-loop-holds Inv-loop μ-loop
 loop-holds c =
-    let s = c .before .before .before .before .before .before in
+    let s = c .before .before .before .before .before .before .before .before .before in
     let a = s .args in
-    (search needs, refl, search needs, s .pre .1 .1 .0, sym (after-none (a .rules .now) (a .sites .now) (stateOf (a .start) (a .work .now))), written-none 0 _ _)
+    (search needs, refl, search needs, s .pre .1 .1 .1 .1 .0, sym (after-none (a .rules .now) (a .sites .now) (stateOf (a .start) (a .work .now))), written-none 0 _ _, remembered-none (a .rules .now) _ refl, refl, refl, refl, s .pre .1 .1 .1 .1 .1 .0)
 
 mul-at : tie.Need-mul-at Inv-loop μ-loop
 mul-at c = search needs
@@ -82,68 +86,84 @@ slice-aggregate-step c = search needs
 
 step-requires : tie.Need-step-requires Inv-loop μ-loop
 step-requires c κs =
-    let s = c .before .before .before .before .before .before .before .before .before .before .before .before .before in
+    let s = c .before .before .before .before .before .before .before .before .before .before .before .before .before .before .before .before .before .before .before .before in
     let a = s .args in
-    let l = c .before .before .before .before .before .before .loop in
-    (s .pre .0, (omega (arith, l .inv .2), (l .inv .3, omega (arith, kept-limit (a .rules .now) (a .sites .now) (stateOf (a .start) (a .work .now)) (l .i), ap (λ (x : State). x .kept) (l .inv .4), s .pre .1 .0, s .pre .1 .1 .1 .0))))
+    let l = c .before .before .before .before .before .before .before .before .before .before .loop in
+    let size = s .pre .1 .1 .0 in
+    let kept : l .run .kept < maxSites = omega (arith, kept-limit (a .rules .now) (a .sites .now) (stateOf (a .start) (a .work .now)) (l .i), ap (λ (x : State). x .kept) (l .inv .4), c .before .before .before .before .before .before .before .before .before .loop-test .taken, s .pre .1 .0, s .pre .1 .1 .1 .1 .1 .1 .0) in
+    (s .pre .0, (l .inv .6, (omega (arith, l .inv .2), ((omega (arith, size .0, l .inv .7), omega (arith, size .1, l .inv .8)), (omega (arith, s .pre .1 .1 .1 .0, l .inv .9), (l .inv .3, (l .inv .10, kept)))))))
 
 cast-verdicts : tie.Need-cast-verdicts Inv-loop μ-loop
 cast-verdicts c =
-    let s = c .before .before .before .before .before .before .before .before .before .before .before .before .before .before .before .before .before .before in
+    let s = c .before .before .before .before .before .before .before .before .before .before .before .before .before .before .before .before .before .before .before .before .before .before .before .before .before .before .before .before .before .before .before in
     let a = s .args in
-    let l = c .before .before .before .before .before .before .before .before .before .before .before .loop in
-    let t = c .before .before .before .before .step in
-    let f = c .before .before .before .before .before .before .before .before .before .before .before .before .sites-from in
-    omega (arith, turn-limit (a .rules .now) (a .sites .now) (stateOf (a .start) (a .work .now)) (l .i) (stateOf (l .run) (l .work)) (l .inv .4) (stepOf (t .result) (t .last .1 .1 .1 .1 .1 .1 .0)) (read-site (a .rules .now) (a .sites .now) (stateOf (l .run) (l .work)) (l .i) (f .result) (f .ensures) (stepOf (t .result) (t .last .1 .1 .1 .1 .1 .1 .0)) (t .ensures .0)))
+    let l = c .before .before .before .before .before .before .before .before .before .before .before .before .before .before .before .before .before .before .before .before .before .loop in
+    let t = c .before .before .before .before .before .before .before .before .before .before .step in
+    let f = c .before .before .before .before .before .before .before .before .before .before .before .before .before .before .before .before .before .before .before .before .before .before .sites-from in
+    omega (arith, turn-limit (a .rules .now) (a .sites .now) (stateOf (a .start) (a .work .now)) (l .i) (stateOf (l .run) (l .work)) (l .inv .4) (stepOf (t .result) (t .last .1 .1 .1 .1 .1 .1 .1 .1 .1 .1 .0)) (read-site (a .rules .now) (a .sites .now) (stateOf (l .run) (l .work)) (l .i) (f .result) (f .ensures) (stepOf (t .result) (t .last .1 .1 .1 .1 .1 .1 .1 .1 .1 .1 .0)) (t .ensures .0)))
 
 slice-write-verdicts : tie.Need-slice-write-verdicts Inv-loop μ-loop
 slice-write-verdicts c =
-    let s = c .before .before .before .before .before .before .before .before .before .before .before .before .before .before .before .before .before .before in
+    let s = c .before .before .before .before .before .before .before .before .before .before .before .before .before .before .before .before .before .before .before .before .before .before .before .before .before .before .before .before .before .before .before in
     let a = s .args in
-    let l = c .before .before .before .before .before .before .before .before .before .before .before .loop in
-    omega (arith, l .inv .5 .long, s .pre .1 .0, s .pre .1 .1 .1 .1)
+    let l = c .before .before .before .before .before .before .before .before .before .before .before .before .before .before .before .before .before .before .before .before .before .loop in
+    omega (arith, l .inv .5 .long, c .before .before .before .before .before .before .before .before .before .before .before .before .before .before .before .before .before .before .before .before .loop-test .taken, s .pre .1 .0, s .pre .1 .1 .1 .1 .1 .1 .1)
 
 add-i : tie.Need-add-i Inv-loop μ-loop
-add-i c = search needs
+add-i c = omega (arith, c .before .before .before .before .before .before .before .before .before .before .before .before .before .before .before .before .before .before .before .before .before .loop-test .taken, c .before .before .before .before .before .before .before .before .before .before .before .before .before .before .before .before .before .before .before .before .before .before .before .before .before .before .before .before .before .before .before .before .pre .1 .0)
 
 loop-less : tie.Need-loop-less Inv-loop μ-loop
 loop-less c = search needs
 
 loop-again : tie.Need-loop-again Inv-loop μ-loop
 loop-again c =
-    let s = c .before .before .before .before .before .before .before .before .before .before .before .before .before .before .before .before .before .before .before in
+    let s = c .before .before .before .before .before .before .before .before .before .before .before .before .before .before .before .before .before .before .before .before .before .before .before .before .before .before .before .before .before .before .before .before in
     let a = s .args in
-    let l = c .before .before .before .before .before .before .before .before .before .before .before .before .loop in
-    let t = c .before .before .before .before .before .step in
-    let below : l .i < siteCount (a .sites .now) = c .before .before .before .before .before .before .before .before .before .before .before .loop-test .taken in
+    let l = c .before .before .before .before .before .before .before .before .before .before .before .before .before .before .before .before .before .before .before .before .before .before .loop in
+    let t = c .before .before .before .before .before .before .before .before .before .before .before .step in
+    let below : l .i < siteCount (a .sites .now) = c .before .before .before .before .before .before .before .before .before .before .before .before .before .before .before .before .before .before .before .before .before .loop-test .taken in
     let start = stateOf (a .start) (a .work .now) in
-    let x = stepOf (t .result) (t .last .1 .1 .1 .1 .1 .1 .0) in
+    let x = stepOf (t .result) (t .last .1 .1 .1 .1 .1 .1 .1 .1 .1 .1 .0) in
     let before = stateOf (l .run) (l .work) in
-    let f = c .before .before .before .before .before .before .before .before .before .before .before .before .before .sites-from in
+    let f = c .before .before .before .before .before .before .before .before .before .before .before .before .before .before .before .before .before .before .before .before .before .before .before .sites-from in
     let site = read-site (a .rules .now) (a .sites .now) before (l .i) (f .result) (f .ensures) x (t .ensures .0) in
     let xs = verdictsOf (a .rules .now) (a .sites .now) start (siteCount (a .sites .now)) in
     let long : length xs ≡ siteCount (a .sites .now) = below-length (verdictAt (a .rules .now) (a .sites .now) start) (siteCount (a .sites .now)) in (
       omega (arith, below),
-      t .kept .1 .1 .1 .1 .1 .1 .0 ∙ l .inv .1,
-      t .kept .1 .1 .1 .1 .1 .0 ∙ l .inv .2,
-      t .ensures .1,
+      t .kept .1 .1 .1 .1 .1 .1 .1 .1 .1 .1 .0 ∙ l .inv .1,
+      t .kept .1 .1 .1 .1 .1 .1 .0 ∙ l .inv .2,
+      t .ensures .1 .0,
       turn-state (a .rules .now) (a .sites .now) start (l .i) before (l .inv .4) x site,
-      written-more 0 xs (a .verdicts .now) (l .verdicts) (l .i) (t .result .verdict) (l .inv .5) (omega (arith, long, below)) (omega (arith, below, s .pre .1 .0, s .pre .1 .1 .1 .1))
+      written-more 0 xs (a .verdicts .now) (l .verdicts) (l .i) (t .result .verdict) (l .inv .5) (omega (arith, long, below)) (omega (arith, below, s .pre .1 .0, s .pre .1 .1 .1 .1 .1 .1 .1))
           (turn-verdict (a .rules .now) (a .sites .now) start (l .i) before (l .inv .4) x site (siteCount (a .sites .now)) below),
+      t .ensures .1 .1 .1,
+      t .kept .1 .1 .1 .1 .1 .1 .1 .0 ∙ l .inv .7,
+      t .kept .1 .1 .1 .1 .1 .1 .1 .1 .0 ∙ l .inv .8,
+      t .kept .1 .1 .1 .1 .1 .1 .1 .1 .1 .0 ∙ l .inv .9,
+      t .ensures .1 .1 .0,
     )
 
 same-length : tie.Need-same-length Inv-loop μ-loop
-same-length c = search needs
+same-length c = c .before .loop .inv .7
 
 same-length-2 : tie.Need-same-length-2 Inv-loop μ-loop
-same-length-2 c = c .before .loop .inv .5 .long
+same-length-2 c = c .before .loop .inv .8
+
+same-length-3 : tie.Need-same-length-3 Inv-loop μ-loop
+same-length-3 c = c .before .loop .inv .9
+
+same-length-4 : tie.Need-same-length-4 Inv-loop μ-loop
+same-length-4 c = c .before .loop .inv .1
+
+same-length-5 : tie.Need-same-length-5 Inv-loop μ-loop
+same-length-5 c = c .before .loop .inv .5 .long
 
 returns : tie.Need-returns Inv-loop μ-loop
 returns c =
-    let s = c .before .before .before .before .before .before .before .before in
+    let s = c .before .before .before .before .before .before .before .before .before .before .before in
     let a = s .args in
     let l = c .before .loop in
-    let e : l .i ≡ siteCount (a .sites .now) = omega arith in
+    let e : l .i ≡ siteCount (a .sites .now) = omega (arith, l .inv .0, c .loop-test .left) in
     let start = stateOf (a .start) (a .work .now) in
     let xs = verdictsOf (a .rules .now) (a .sites .now) start (siteCount (a .sites .now)) in
     let long : length xs ≡ siteCount (a .sites .now) = below-length (verdictAt (a .rules .now) (a .sites .now) start) (siteCount (a .sites .now)) in (
@@ -183,4 +203,7 @@ run-sites-spec =
     loop-again
     same-length
     same-length-2
+    same-length-3
+    same-length-4
+    same-length-5
     returns)

@@ -1,5 +1,4 @@
 -- A mask bit beyond the left gates, or what the loop over them left from the start bindings on: `at-beyond`, `at-some`, `at-none`.
-use mathlib.Core.Path.{_∙_}
 use borrow.Author.Needs.{needs}
 use Rattle.circuit.specs.Table.{decode}
 use Rattle.rules.proofs.VerdictLaws.{at-beyond, at-some, at-none}
@@ -18,19 +17,16 @@ shared-slice-read-lefts c = search needs
 shr-if1 : tie.Need-shr-if1
 shr-if1 c = search needs
 
-failing-requires : tie.Need-failing-requires
-failing-requires c κs = search needs
-
 returns : tie.Need-returns
 returns c =
-    let a = c .before .before .before .before .before .args in
-    c .failing .ensures ∙ at-beyond (decode (a .c .now)) (a .t .now) (a .p) (a .gate) (a .mask) (c .before .if1 .taken)
+    let a = c .before .before .before .before .args in
+    at-beyond (decode (a .c .now)) (a .t .now) (a .p) (a .gate) (a .mask) (a .b .now) (c .if1 .taken)
 
-array-write-b : tie.Need-array-write-b
-array-write-b c = search needs
+element-write-b : tie.Need-element-write-b
+element-write-b c = search needs
 
-array-write-b-2 : tie.Need-array-write-b-2
-array-write-b-2 c = search needs
+element-write-b-2 : tie.Need-element-write-b-2
+element-write-b-2 c = search needs
 
 mul-root : tie.Need-mul-root
 mul-root c = search needs
@@ -62,26 +58,25 @@ add-b c = search needs
 mul-b : tie.Need-mul-b
 mul-b c = search needs
 
-array-write-b-3 : tie.Need-array-write-b-3
-array-write-b-3 c = search needs
+element-write-b-3 : tie.Need-element-write-b-3
+element-write-b-3 c = search needs
 
 match-gates-requires : tie.Need-match-gates-requires
 match-gates-requires c κs = search needs
 
 returns-2 : tie.Need-returns-2
 returns-2 c =
-    let a = c .before .before .before .before .before .before .before .before .args in
+    let s = c .before .before .before .before .before .before .before .before in
+    let a = s .args in
     let m = c .before .match-gates in
-    at-some (decode (a .c .now)) (a .t .now) (a .p) (a .gate) (a .mask) (m .result) (m .last .1 .1 .1 .1 .0) (c .before .before .before .before .if1 .left) (m .ensures) (c .if2 .taken)
-
-failing-requires-2 : tie.Need-failing-requires-2
-failing-requires-2 c κs = search needs
+    at-some (decode (a .c .now)) (a .t .now) (a .p) (a .gate) (a .mask) (a .b .now) (s .pre .1 .1 .1) (m .result) (m .last .1 .1 .1 .1 .0) (c .before .before .before .before .if1 .left) (m .ensures) (c .if2 .taken)
 
 returns-3 : tie.Need-returns-3
 returns-3 c =
-    let a = c .before .before .before .before .before .before .before .before .before .args in
-    let m = c .before .before .match-gates in
-    c .failing2 .ensures ∙ at-none (decode (a .c .now)) (a .t .now) (a .p) (a .gate) (a .mask) (m .result) (m .last .1 .1 .1 .1 .0) (c .before .before .before .before .before .if1 .left) (m .ensures) (c .before .if2 .left)
+    let s = c .before .before .before .before .before .before .before .before in
+    let a = s .args in
+    let m = c .before .match-gates in
+    at-none (decode (a .c .now)) (a .t .now) (a .p) (a .gate) (a .mask) (a .b .now) (s .pre .1 .1 .1) (m .result) (m .last .1 .1 .1 .1 .0) (c .before .before .before .before .if1 .left) (m .ensures) (c .if2 .left)
 
 pub match-at-spec : {M : Type 1} → statement M
 match-at-spec =
@@ -91,10 +86,9 @@ match-at-spec =
     mul-lefts
     shared-slice-read-lefts
     shr-if1
-    failing-requires
     returns
-    array-write-b
-    array-write-b-2
+    element-write-b
+    element-write-b-2
     mul-root
     shared-slice-read-root
     cast-root
@@ -105,8 +99,7 @@ match-at-spec =
     sub-root
     add-b
     mul-b
-    array-write-b-3
+    element-write-b-3
     match-gates-requires
     returns-2
-    failing-requires-2
     returns-3)

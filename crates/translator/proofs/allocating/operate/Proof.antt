@@ -37,11 +37,17 @@ mul-a c = search needs
 element-copy-out-a : tie.Need-element-copy-out-a
 element-copy-out-a c = search needs
 
+cast-a : tie.Need-cast-a
+cast-a c = omega (arith, c .before .before .before .before .pre .0 .near (c .before .before .before .before .args .gate .left))
+
 mul-b : tie.Need-mul-b
 mul-b c = search needs
 
 element-copy-out-b : tie.Need-element-copy-out-b
 element-copy-out-b c = search needs
+
+cast-b : tie.Need-cast-b
+cast-b c = omega (arith, c .before .before .before .before .before .pre .0 .near (c .before .before .before .before .before .args .gate .right))
 
 mul-keep-left : tie.Need-mul-keep-left
 mul-keep-left c = search needs
@@ -126,8 +132,10 @@ operate-spec =
     cast-right
     mul-a
     element-copy-out-a
+    cast-a
     mul-b
     element-copy-out-b
+    cast-b
     mul-keep-left
     element-copy-out-keep-left
     release-requires

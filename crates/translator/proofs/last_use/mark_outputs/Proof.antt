@@ -22,6 +22,9 @@ closings-from-requires c κs = search needs
 shared-slice-read-number : tie.Need-shared-slice-read-number Inv-loop μ-loop
 shared-slice-read-number c = search needs
 
+cast-number : tie.Need-cast-number Inv-loop μ-loop
+cast-number c = search needs
+
 add-number : tie.Need-add-number Inv-loop μ-loop
 add-number c = search needs
 
@@ -90,4 +93,4 @@ returns c =
     (all .0, (all .1, l .inv .1))
 
 pub mark-outputs-spec : {M : Type 1} → statement M
-mark-outputs-spec = tie.close (tie.spec Inv-loop μ-loop closings-from-requires shared-slice-read-number add-number shared-slice-read-i cast-i loop-holds sub-i output-reference-requires mul-if1 element-copy-out-if1 mul-last element-write-last add-distinct loop-less loop-again loop-less-2 loop-again-2 returns)
+mark-outputs-spec = tie.close (tie.spec Inv-loop μ-loop closings-from-requires shared-slice-read-number cast-number add-number shared-slice-read-i cast-i loop-holds sub-i output-reference-requires mul-if1 element-copy-out-if1 mul-last element-write-last add-distinct loop-less loop-again loop-less-2 loop-again-2 returns)

@@ -1,75 +1,72 @@
--- What is not marked is unloaded (`arrivals-read`), and both marks make the next gate's (`used-more`).
-use mathlib.Core.Path.{sym, ap, _∙_}
+-- What is marked is unloaded (`arrivals-read`), and without both marks it is what the next gate finds (`unloaded-more`).
+use mathlib.Core.Path.{_≡_, sym, ap, _∙_}
+use Prim.Native.Nat.{_+_, _≤_}
 use native.Mathlib.Omega.{arith}
-use lib.ListN.{length-set}
+use lib.ListN.{getD, set, length-set}
 use Rattle.circuit.specs.Table.{decode}
 use Rattle.circuit.proofs.TableLaws.{gates-length}
 use Rattle.translator.specs.Pressure.{arrivals}
-use Rattle.translator.proofs.CountingLaws.{used-more, arrivals-read}
+use Rattle.translator.proofs.CountingLaws.{unloaded-more, arrivals-read, arrivals-few}
 use borrow.Author.Needs.{needs}
 use Rattle.translator.proofs.pressure.arrivals.Statement.{statement}
 use Rattle.translator.proofs.pressure.arrivals.Tie as tie
 
+-- the two marks are the values that are loaded, at most two
+loads : (c : tie.After-struct-known4)
+    → (let a = c .before .before .before .before .before .before .before .before .args in
+    let g = c .before .before .before .before .before .before .gate-line .result in
+    (getD (a .unloaded .now) (g .left) 0 + getD (set (a .unloaded .now) (g .left) 0) (g .right) 0 ≡ arrivals (decode (a .t .now)) (a .i) g)
+    × (arrivals (decode (a .t .now)) (a .i) g ≤ 2))
+loads c =
+    let s = c .before .before .before .before .before .before .before .before in
+    let g = c .before .before .before .before .before .before .gate-line in
+    (arrivals-read (decode (s .args .t .now)) (s .args .unloaded .now) (s .args .i) (s .pre .1 .1 .1 .1) (g .result) (search needs), arrivals-few _ _ _)
+
 gate-line-requires : tie.Need-gate-line-requires
 gate-line-requires c κs = search needs
-
-shared-slice-read-first-gate : tie.Need-shared-slice-read-first-gate
-shared-slice-read-first-gate c = search needs
-
-add-first-gate : tie.Need-add-first-gate
-add-first-gate c = search needs
 
 cast-left : tie.Need-cast-left
 cast-left c = search needs
 
-mul-left : tie.Need-mul-left
-mul-left c = search needs
-
 element-copy-out-left : tie.Need-element-copy-out-left
 element-copy-out-left c = search needs
 
-cast-used : tie.Need-cast-used
-cast-used c = search needs
+cast-unloaded : tie.Need-cast-unloaded
+cast-unloaded c = search needs
 
-mul-used : tie.Need-mul-used
-mul-used c = search needs
-
-element-write-used : tie.Need-element-write-used
-element-write-used c = search needs
+element-write-unloaded : tie.Need-element-write-unloaded
+element-write-unloaded c = search needs
 
 cast-right : tie.Need-cast-right
 cast-right c = search needs
 
-mul-right : tie.Need-mul-right
-mul-right c = search needs
-
 element-copy-out-right : tie.Need-element-copy-out-right
 element-copy-out-right c = search needs
 
-cast-used-2 : tie.Need-cast-used-2
-cast-used-2 c = search needs
+cast-unloaded-2 : tie.Need-cast-unloaded-2
+cast-unloaded-2 c = search needs
 
-mul-used-2 : tie.Need-mul-used-2
-mul-used-2 c = search needs
+element-write-unloaded-2 : tie.Need-element-write-unloaded-2
+element-write-unloaded-2 c = search needs
 
-element-write-used-2 : tie.Need-element-write-used-2
-element-write-used-2 c = search needs
+cast-result : tie.Need-cast-result
+cast-result c = omega (arith, loads c .0, loads c .1)
 
-count-true-requires : tie.Need-count-true-requires
-count-true-requires c κs = search needs
+cast-result-2 : tie.Need-cast-result-2
+cast-result-2 c = omega (arith, loads c .0, loads c .1)
+
+add-result : tie.Need-add-result
+add-result c = omega (arith, loads c .0, loads c .1)
 
 returns : tie.Need-returns
 returns c =
-    let s = c .before .before .before .before .before .before .before .before .before .before .before .before in
-    let g = c .before .before .before .before .before .before .before .before .before .before .gate-line in
+    let s = c .before .before .before .before .before .before .before .before in
+    let g = c .before .before .before .before .before .before .gate-line in
     let t = s .args .t .now in
-    let used = s .args .used .now in
-    let i = s .args .i in
-    let read = sym (g .ensures .0) in
-    let marked = s .pre .1 .1 .1 .1 in (
-      c .count-true .ensures ∙ arrivals-read (decode t) used i marked _ (search needs) ∙ ap (arrivals (decode t) i) (sym read),
-      (used-more (decode t) used i marked _ read (omega (arith, gates-length t)) (search needs) (search needs), simp length-set (s .pre .1 .1 .1 .0)),
+    let read = sym (g .ensures .0) in (
+      loads c .0 ∙ ap (arrivals (decode t) (s .args .i)) (sym read),
+      (unloaded-more (decode t) (s .args .unloaded .now) (s .args .i) (s .pre .1 .1 .1 .1) _ read (omega (arith, gates-length t)) (search needs) (search needs), simp length-set (s .pre .1 .1 .1 .0)),
     )
 
 pub arrivals-spec : {M : Type 1} → statement M
-arrivals-spec = tie.close (tie.spec gate-line-requires shared-slice-read-first-gate add-first-gate cast-left mul-left element-copy-out-left cast-used mul-used element-write-used cast-right mul-right element-copy-out-right cast-used-2 mul-used-2 element-write-used-2 count-true-requires returns)
+arrivals-spec = tie.close (tie.spec gate-line-requires cast-left element-copy-out-left cast-unloaded element-write-unloaded cast-right element-copy-out-right cast-unloaded-2 element-write-unloaded-2 cast-result cast-result-2 add-result returns)

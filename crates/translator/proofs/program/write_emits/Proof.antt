@@ -43,8 +43,11 @@ mul-write-instruction c = search needs
 element-copy-out-write-instruction : tie.Need-element-copy-out-write-instruction Inv-loop μ-loop
 element-copy-out-write-instruction c = search needs
 
+cast-write-instruction : tie.Need-cast-write-instruction Inv-loop μ-loop
+cast-write-instruction c = omega (arith, c .before .before .before .before .before .before .before .before .before .pre .1 .0 (c .before .before .output-reference .result))
+
 write-instruction-requires : tie.Need-write-instruction-requires Inv-loop μ-loop
-write-instruction-requires c κs = omega (arith, c .before .before .before .before .before .before .before .before .before .pre .1, c .before .before .before .before .loop .inv .1 .beyond .long, c .before .before .before .loop-test .taken)
+write-instruction-requires c κs = omega (arith, c .before .before .before .before .before .before .before .before .before .pre .1 .1, c .before .before .before .before .loop .inv .1 .beyond .long, c .before .before .before .loop-test .taken)
 
 add-j : tie.Need-add-j Inv-loop μ-loop
 add-j c = search needs
@@ -63,7 +66,7 @@ loop-again c =
       omega arith,
       emitted-more (λ v. emitting (getD (a .place .now) v 0)) (decode (a .t .now) .outputs) (a .start) (a .buffer .now) (l .buffer) (l .j) (l .inv .1)
           (omega (arith, h, outputs-length (a .t .now))) (o .result) (sym (o .ensures .0))
-          (omega (arith, s .pre .1, l .inv .1 .beyond .long, h)) (w .last .0) (w .ensures),
+          (omega (arith, s .pre .1 .1, l .inv .1 .beyond .long, h)) (w .last .0) (w .ensures),
     )
 
 add-result : tie.Need-add-result Inv-loop μ-loop
@@ -82,4 +85,4 @@ returns c =
     (sym (outputs-length t))
 
 pub write-emits-spec : {M : Type 1} → statement M
-write-emits-spec = tie.close (tie.spec Inv-loop μ-loop closings-from-requires shared-slice-read-count cast-count loop-holds output-reference-requires add-write-instruction mul-write-instruction element-copy-out-write-instruction write-instruction-requires add-j loop-less loop-again add-result same-length returns)
+write-emits-spec = tie.close (tie.spec Inv-loop μ-loop closings-from-requires shared-slice-read-count cast-count loop-holds output-reference-requires add-write-instruction mul-write-instruction element-copy-out-write-instruction cast-write-instruction write-instruction-requires add-j loop-less loop-again add-result same-length returns)

@@ -34,14 +34,17 @@ write-emits-requires c κs =
     let g = c .before .before .before .before .before .before .before .before .before .before .before .allocate-gates in
     let r = c .before .before .before .before .load-outputs in (
       s .pre .0,
-      omega (
-        arith,
-        s .pre .1 .1 .1 .1,
-        g .ensures .kept .long,
-        r .ensures .kept .long,
-        outputs-length t,
-        emits-fit (decode t) (trimmed-fixed t (s .pre .0) (s .pre .1 .0)) (r .last .1 .0) (g .last .1 .1 .1 .0) (r .last .1 .1 .1 .0) (r .last .1 .1 .1 .1 .0)
-            (r .result) (g .last .1 .1 .1 .1 .1 .0) (r .ensures) (limited-decode t (s .pre .0 .sized)),
+      (
+        r .ensures .arrays .near,
+        omega (
+          arith,
+          s .pre .1 .1 .1 .1,
+          g .ensures .kept .long,
+          r .ensures .kept .long,
+          outputs-length t,
+          emits-fit (decode t) (trimmed-fixed t (s .pre .0) (s .pre .1 .0)) (r .last .1 .0) (g .last .1 .1 .1 .0) (r .last .1 .1 .1 .0) (r .last .1 .1 .1 .1 .0)
+              (r .result) (g .last .1 .1 .1 .1 .1 .0) (r .ensures) (limited-decode t (s .pre .0 .sized)),
+        ),
       ),
     )
 

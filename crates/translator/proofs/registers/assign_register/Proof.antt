@@ -44,6 +44,9 @@ mul-place c = search needs
 element-write-place : tie.Need-element-write-place
 element-write-place c = search needs
 
+cast-write-instruction : tie.Need-cast-write-instruction
+cast-write-instruction c = omega (arith, inside (c .before))
+
 write-instruction-requires : tie.Need-write-instruction-requires
 write-instruction-requires c κs = search needs
 
@@ -76,6 +79,7 @@ assign-register-spec =
     element-write-owner
     mul-place
     element-write-place
+    cast-write-instruction
     write-instruction-requires
     add-counts-after
     counts-after-requires

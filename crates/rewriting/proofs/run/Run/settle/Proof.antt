@@ -1,47 +1,105 @@
--- By the compare of the pairs: `settled-left` where the verdict is 6, else `settled-kept`, as the trimmed table was put into `work`.
+-- A deeper circuit by `settled-deeper`; else by the compare of the pairs: `settled-left` where the verdict is 6, else `settled-kept`.
+use mathlib.Core.Path.{ap₂}
 use native.Mathlib.Omega.{arith}
+use Rattle.circuit.specs.declared.critical.DepthPair.{DepthPair}
 use Rattle.circuit.proofs.BackwardLaws.{reverse-front}
-use Rattle.rewriting.proofs.RunStateLaws.{settled-left, settled-kept}
+use Rattle.rewriting.proofs.RunStateLaws.{settled-deeper, settled-left, kept-pair, settled-kept}
 use borrow.Author.Needs.{needs}
 use Rattle.rewriting.proofs.run.Run.settle.Statement.{statement}
 use Rattle.rewriting.proofs.run.Run.settle.Tie as tie
 
-slice-aggregate-pair-with-reverse-depths : tie.Need-slice-aggregate-pair-with-reverse-depths
-slice-aggregate-pair-with-reverse-depths c = search needs
-
-pair-with-reverse-depths-requires : tie.Need-pair-with-reverse-depths-requires
-pair-with-reverse-depths-requires c κs = (c .before .before .before .pre .0, omega (arith, c .before .before .before .pre .0 .sized))
-
-compare-requires : tie.Need-compare-requires
-compare-requires c κs = search needs
-
-slice-aggregate-trim-by-reverse-depths : tie.Need-slice-aggregate-trim-by-reverse-depths
-slice-aggregate-trim-by-reverse-depths c = search needs
-
-trim-by-reverse-depths-requires : tie.Need-trim-by-reverse-depths-requires
-trim-by-reverse-depths-requires c κs =
-    let s = c .before .before .before .before .before .before .before .before .before .before in
-    let w = s .pre .0 in
-    (w, (omega (arith, w .sized), (reverse-front (s .args .candidate .now) _ _ (c .before .before .before .before .before .before .pair-with-reverse-depths .ensures .1), omega (arith, w .sized, s .pre .1 .0 .room))))
-
-returns : tie.Need-returns
-returns c =
-    let s = c .before .before .before .before .before .before .before in
-    let new = c .before .before .before .pair-with-reverse-depths in
-    let x = c .before .compare in
-    settled-left (s .args .self) (s .args .candidate .now) (s .args .work .now) (s .pre .0) (s .pre .1 .0) (new .result) (new .ensures .0) (x .result) (x .ensures) (c .match .keys1)
+output-depth-requires : tie.Need-output-depth-requires
+output-depth-requires c κs =
+    let s = c .before .before .before .before .before .before in
+    (s .pre .0, (s .pre .1 .0 .0, s .pre .1 .0 .1))
 
 same-length : tie.Need-same-length
 same-length c = search needs
 
+returns : tie.Need-returns
+returns c =
+    let s = c .before .before .before .before .before .before .before .before .before in
+    (settled-deeper (s .args .self) (s .args .candidate .now) (s .args .work .now) (s .pre .1 .1 .1 .0) (omega (arith, c .if1 .taken, c .before .before .output-depth .ensures)), (s .pre .1 .1 .1 .0, s .pre .1 .1 .1 .1 .0))
+
+critical-with-reverse-depths-requires : tie.Need-critical-with-reverse-depths-requires
+critical-with-reverse-depths-requires c κs =
+    let s = c .before .before .before .before .before .before .before .before .before .before .before in
+    (s .pre .0, (s .pre .1 .0 .0, (omega (arith, s .pre .0 .sized, s .pre .1 .1 .0 .0), (s .pre .1 .0 .1, c .before .before .before .before .output-depth .ensures))))
+
+compare-requires : tie.Need-compare-requires
+compare-requires c κs = search needs
+
+keep-requires : tie.Need-keep-requires
+keep-requires c κs =
+    let s = c .before .before .before .before .before .before .before .before .before .before .before .before .before .before .before .before .before .before .before .before .before in
+    let a = s .args in
+    let n = c .before .before .before .before .before .before .before .before .before .critical-with-reverse-depths in
+    let d = c .before .before .before .before .before .before .before .before .before .before .before .before .before .before .output-depth in
+    let new : DepthPair = record { depth = d .result; critical = n .result } in
+    let x = c .before .before .before .before .before .before .compare in
+    let p = ap₂ {C = DepthPair} (λ u v. record { depth = u; critical = v }) (d .ensures) (n .ensures .0) in
+    let r = c .before .before .before .before .before .match .rest .1 in (
+      s .pre .0,
+      (kept-pair (a .self) (a .candidate .now) (a .work .now) (s .pre .0) (s .pre .1 .1 .1 .0) new p (x .result) (x .ensures) r, (s .pre .1 .0, ((omega (arith, s .pre .0 .sized, s .pre .1 .1 .0 .0, n .kept .1 .1 .1 .0), reverse-front (a .candidate .now) _ _ (n .ensures .1)), (s .pre .1 .1 .0 .1, s .pre .1 .1 .1 .0 .room)))),
+    )
+
+same-length-2 : tie.Need-same-length-2
+same-length-2 c = search needs
+
+same-length-3 : tie.Need-same-length-3
+same-length-3 c = search needs
+
 returns-2 : tie.Need-returns-2
 returns-2 c =
-    let s = c .before .before .before .before .before .before .before .before .before .before .before .before .before in
-    let new = c .before .before .before .before .before .before .before .before .before .pair-with-reverse-depths in
-    let x = c .before .before .before .before .before .before .before .compare in
-    let t = c .before .before .trim-by-reverse-depths in
-    settled-kept (s .args .self) (s .args .candidate .now) (s .args .work .now) (s .pre .0) (s .pre .1 .0) (new .result) (new .ensures .0) (x .result) (x .ensures) (c .before .before .before .before .before .before .match .rest .1)
-    (t .last .1 .1 .0) (t .ensures .0) (t .kept .1 .1 .0) (t .result) (t .ensures .1)
+    let s = c .before .before .before .before .before .before .before .before .before .before .before .before .before .before .before .before in
+    let a = s .args in
+    let n = c .before .before .before .before .critical-with-reverse-depths in
+    let d = c .before .before .before .before .before .before .before .before .before .output-depth in
+    let new : DepthPair = record { depth = d .result; critical = n .result } in
+    let x = c .before .compare in
+    let p = ap₂ {C = DepthPair} (λ u v. record { depth = u; critical = v }) (d .ensures) (n .ensures .0) in
+    let (e, h, l) = settled-left (a .self) (a .candidate .now) (a .work .now) (s .pre .0) (s .pre .1 .1 .1 .0) new p (x .result) (x .ensures) (c .match .keys1) _ (s .pre .1 .1 .1 .1 .0) in
+    (e, (h, l))
+
+same-length-4 : tie.Need-same-length-4
+same-length-4 c = search needs
+
+same-length-5 : tie.Need-same-length-5
+same-length-5 c = search needs
+
+same-length-6 : tie.Need-same-length-6
+same-length-6 c = search needs
+
+same-length-7 : tie.Need-same-length-7
+same-length-7 c = search needs
+
+returns-3 : tie.Need-returns-3
+returns-3 c =
+    let s = c .before .before .before .before .before .before .before .before .before .before .before .before .before .before .before .before .before .before .before .before .before .before .before .before .before .before .before .before in
+    let a = s .args in
+    let n = c .before .before .before .before .before .before .before .before .before .before .before .before .before .before .before .before .critical-with-reverse-depths in
+    let d = c .before .before .before .before .before .before .before .before .before .before .before .before .before .before .before .before .before .before .before .before .before .output-depth in
+    let new : DepthPair = record { depth = d .result; critical = n .result } in
+    let x = c .before .before .before .before .before .before .before .before .before .before .before .before .before .compare in
+    let p = ap₂ {C = DepthPair} (λ u v. record { depth = u; critical = v }) (d .ensures) (n .ensures .0) in
+    let k = c .before .before .before .before .before .before .keep in
+    (settled-kept (a .self) (a .candidate .now) (a .work .now) (s .pre .0) (s .pre .1 .1 .1 .0) new p (x .result) (x .ensures) (c .before .before .before .before .before .before .before .before .before .before .before .before .match .rest .1) (k .result) _ (k .ensures .0), (k .ensures .1 .0, k .ensures .1 .1))
 
 pub settle-spec : {M : Type 1} → statement M
-settle-spec = tie.close (tie.spec slice-aggregate-pair-with-reverse-depths pair-with-reverse-depths-requires compare-requires slice-aggregate-trim-by-reverse-depths trim-by-reverse-depths-requires returns same-length returns-2)
+settle-spec =
+    tie.close
+    (tie.spec
+    output-depth-requires
+    same-length
+    returns
+    critical-with-reverse-depths-requires
+    compare-requires
+    keep-requires
+    same-length-2
+    same-length-3
+    returns-2
+    same-length-4
+    same-length-5
+    same-length-6
+    same-length-7
+    returns-3)

@@ -1,0 +1,68 @@
+-- The laws of `Tests`: both tests have come equally far, and go on by the line's own.
+use Prim.Native.Nat.{_-_, _≤_}
+use Rattle.circuit.specs.Refusal.{isClosing, referenceBelow}
+use Rattle.circuit.proofs.EachLaws.{Tests, tests-none, tests-more, tests-end}
+use borrow.Author.Needs.{needs}
+use Rattle.circuit.proofs.checking.test_closings.Statement.{statement}
+use Rattle.circuit.proofs.checking.test_closings.Tie as tie
+
+abbrev Inv-loop : tie.InvT-loop
+Inv-loop t q n top tested₀ i₀ tested i = (i ≤ n) × Tests isClosing 0 q n t (tested₀ .kinds) i (tested .kinds) × Tests (referenceBelow top) 0 q n t (tested₀ .references) i (tested .references)
+
+abbrev μ-loop : tie.MeasureT-loop
+μ-loop t q n top tested₀ i₀ tested i = n - i
+
+loop-holds : tie.Need-loop-holds Inv-loop μ-loop
+loop-holds c =
+    let s = c .before .args in
+    (search needs, tests-none isClosing 0 (s .q) (s .n) (s .t .now) (s .earlier .kinds), tests-none (referenceBelow (s .top)) 0 (s .q) (s .n) (s .t .now) (s .earlier .references))
+
+mul-test-closing : tie.Need-mul-test-closing Inv-loop μ-loop
+mul-test-closing c = search needs
+
+add-test-closing : tie.Need-add-test-closing Inv-loop μ-loop
+add-test-closing c = search needs
+
+test-closing-requires : tie.Need-test-closing-requires Inv-loop μ-loop
+test-closing-requires c κs = search needs
+
+add-i : tie.Need-add-i Inv-loop μ-loop
+add-i c = search needs
+
+loop-less : tie.Need-loop-less Inv-loop μ-loop
+loop-less c = search needs
+
+loop-again : tie.Need-loop-again Inv-loop μ-loop
+loop-again c =
+    let s = c .before .before .before .before .args in
+    let l = c .before .before .loop in
+    let h = c .before .loop-test .taken in
+    let e = c .test-closing .ensures in (
+      search needs,
+      tests-more isClosing 0 (s .q) (s .n) (s .t .now) (s .earlier .kinds) (l .i) (l .tested .kinds) (l .inv .1) _ h (e .0),
+      tests-more (referenceBelow (s .top)) 0 (s .q) (s .n) (s .t .now) (s .earlier .references) (l .i) (l .tested .references) (l .inv .2) _ h (e .1),
+    )
+
+returns : tie.Need-returns Inv-loop μ-loop
+returns c =
+    let s = c .before .before .before .args in
+    let l = c .before .loop in
+    let h = c .loop-test .left in (
+      tests-end isClosing 0 (s .q) (s .n) (s .t .now) (s .earlier .kinds) (l .i) (l .tested .kinds) (l .inv .1) h,
+      tests-end (referenceBelow (s .top)) 0 (s .q) (s .n) (s .t .now) (s .earlier .references) (l .i) (l .tested .references) (l .inv .2) h,
+    )
+
+pub test-closings-spec : {M : Type 1} → statement M
+test-closings-spec =
+    tie.close
+    (tie.spec
+    Inv-loop
+    μ-loop
+    loop-holds
+    mul-test-closing
+    add-test-closing
+    test-closing-requires
+    add-i
+    loop-less
+    loop-again
+    returns)

@@ -1,0 +1,65 @@
+-- Laws of `Named`: the first v references have their new numbers, which are the old ones.
+use mathlib.Core.Path.{_≡_}
+use Prim.Native.Nat.{_-_, _≤_}
+use native.Mathlib.Omega.{arith}
+use lib.ListN.{length}
+use Rattle.circuit.proofs.TrimmingLaws.{Named, named-none, named-more, input-name}
+use borrow.Author.Needs.{needs}
+use Rattle.circuit.proofs.trimming.name_inputs.Statement.{statement}
+use Rattle.circuit.proofs.trimming.name_inputs.Tie as tie
+
+abbrev Inv-loop : tie.InvT-loop
+Inv-loop t names₀ first v₀ names v = (v ≤ first) × (length names ≡ length names₀) × Named t names v
+
+abbrev μ-loop : tie.MeasureT-loop
+μ-loop t names₀ first v₀ names v = first - v
+
+first-gate-requires : tie.Need-first-gate-requires Inv-loop μ-loop
+first-gate-requires c κs = search needs
+
+loop-holds : tie.Need-loop-holds Inv-loop μ-loop
+loop-holds c = (search needs, search needs, named-none (c .before .before .before .args .t .now) (c .before .before .before .args .names .now))
+
+cast-names : tie.Need-cast-names Inv-loop μ-loop
+cast-names c = search needs
+
+mul-names : tie.Need-mul-names Inv-loop μ-loop
+mul-names c = search needs
+
+slice-write-names : tie.Need-slice-write-names Inv-loop μ-loop
+slice-write-names c = search needs
+
+add-v : tie.Need-add-v Inv-loop μ-loop
+add-v c = search needs
+
+loop-less : tie.Need-loop-less Inv-loop μ-loop
+loop-less c = search needs
+
+loop-again : tie.Need-loop-again Inv-loop μ-loop
+loop-again c =
+    let l = c .before .loop in
+    let t = c .before .before .before .before .before .args .t .now in
+    (search needs, search needs, named-more t (l .names) (l .v) (l .v) (l .inv .2) (search needs) (input-name t (l .v) (search needs)))
+
+same-length : tie.Need-same-length Inv-loop μ-loop
+same-length c = search needs
+
+returns : tie.Need-returns Inv-loop μ-loop
+returns c = λ v h. c .before .loop .inv .2 v (omega (arith, h, c .loop-test .left, c .before .before .first-gate .ensures))
+
+pub name-inputs-spec : {M : Type 1} → statement M
+name-inputs-spec =
+    tie.close
+    (tie.spec
+    Inv-loop
+    μ-loop
+    first-gate-requires
+    loop-holds
+    cast-names
+    mul-names
+    slice-write-names
+    add-v
+    loop-less
+    loop-again
+    same-length
+    returns)
