@@ -30,15 +30,17 @@ pub fn read_number(text: &[u8], at: usize) -> u32
     ((((a * 10 + b) * 10 + c) * 10 + d) * 10 + e) * 10 + f
 }
 
-// Whether a column can stand behind the one before it: after a blank, a blank or a first digit, which is not 0; after a digit, a digit.
+// Whether a column can stand behind the one before it: after a blank, a blank or a first digit, which is not 0; after a digit, a digit. Ways out are faster than one formula here, since the numbers of a text have few lengths and the processor guesses them.
 fn follows(before: u8, byte: u8) -> bool
     ensures { λ r. ⌜ r ≡ first (eqb before 32) (eqb byte 32 || (leb 49 byte && leb byte 57)) (leb 48 byte && leb byte 57) ⌝ }
 {
-    if before == 32 {
-        (byte == 32) | ((49 <= byte) & (byte <= 57))
-    } else {
-        (48 <= byte) & (byte <= 57)
+    if before != 32 {
+        return (48 <= byte) & (byte <= 57);
     }
+    if byte == 32 {
+        return true;
+    }
+    (49 <= byte) & (byte <= 57)
 }
 
 // Whether the six columns from `at` are a number. Looking at each column beside the one before it spares the divisions of writing the number to compare.
