@@ -1,5 +1,5 @@
 /* Tries every call on a circuit, ((2 * 3) * 4) * 5 of four inputs, and the rule from ((v * w) * y) * z to (v * w) * (y * z) at its last gate:
- * by tables, then by texts.
+ * by tables, then by texts; and then with an input that arrives at a level.
  *
  *   rt staticlib napspruce && cc -Iinclude examples/balance.c target/staticlib/libnapspruce.a -o target/balance && target/balance
  */
@@ -56,6 +56,12 @@ static size_t write_text(const uint32_t *table, size_t count, uint8_t *text, siz
     return 19 * (count / 3);
 }
 
+/* How many numbers the rewritten circuit's table has: only its gates may be more or fewer than those of the circuit handed over. */
+static size_t numbers_of(const uint32_t *rewritten, const uint32_t *given, size_t given_count)
+{
+    return given_count - 3 * given[1] + 3 * rewritten[1];
+}
+
 /* Both circuits give the same outputs on all inputs. */
 static void compare(const uint32_t *rewritten, size_t count)
 {
@@ -97,6 +103,30 @@ static void list(const uint32_t *rewritten, size_t count, const uint32_t *told, 
     fwrite(listing, 1, length, stdout);
 }
 
+/* The same circuit, its input 2 arriving at level 3: depths begin there, and the rewritten circuit has the starting line as well. */
+static void start_at_level(void)
+{
+    static uint32_t result[NAPSPRUCE_TABLE], work[NAPSPRUCE_TABLE];
+    static uint8_t verdicts[NAPSPRUCE_VERDICTS];
+    uint32_t late[COUNT(circuit) + 3] = {4, 3, 1, 4, 2, 3}; /* the head, and the starting line of input 2 */
+    memcpy(late + 6, circuit + 3, sizeof circuit - 3 * sizeof *circuit);
+
+    uint64_t pair = accepted("measure", napspruce_measure(late, COUNT(late)));
+    expect("three ANDs above level 3", NAPSPRUCE_DEPTH(pair) == 6 && NAPSPRUCE_CRITICAL(pair) == 3);
+    uint64_t r = accepted("rewrite", napspruce_rewrite(late, COUNT(late), rules, COUNT(rules), sites, COUNT(sites),
+                                                       result, COUNT(result), work, COUNT(work), verdicts, COUNT(verdicts)));
+    expect("two ANDs above level 3", NAPSPRUCE_NEW_DEPTH(r) == 5 && NAPSPRUCE_NEW_CRITICAL(r) == 2 && verdicts[0] == 0);
+    expect("the starting line stays", memcmp(result + 3, late + 3, 3 * sizeof *late) == 0);
+    pair = accepted("measure", napspruce_measure(result, numbers_of(result, late, COUNT(late))));
+    expect("new pair", NAPSPRUCE_DEPTH(pair) == 5 && NAPSPRUCE_CRITICAL(pair) == 2);
+
+    late[5] = 256;
+    expect("a level above 255 is refused with 11, table 1", napspruce_measure(late, COUNT(late)) == 1000111);
+    late[5] = 3;
+    late[4] = 6;
+    expect("a gate's reference is refused with 11, table 1", napspruce_measure(late, COUNT(late)) == 1000111);
+}
+
 int main(void)
 {
     static uint32_t result[NAPSPRUCE_TABLE], work[NAPSPRUCE_TABLE];
@@ -108,7 +138,7 @@ int main(void)
 
     uint64_t r = accepted("rewrite", napspruce_rewrite(circuit, COUNT(circuit), rules, COUNT(rules), sites, COUNT(sites),
                                                        result, COUNT(result), work, COUNT(work), verdicts, COUNT(verdicts)));
-    size_t count = 3 * (1 + result[1] + result[2]);
+    size_t count = numbers_of(result, circuit, COUNT(circuit));
     expect("old pair", NAPSPRUCE_OLD_DEPTH(r) == NAPSPRUCE_DEPTH(pair) && NAPSPRUCE_OLD_CRITICAL(r) == NAPSPRUCE_CRITICAL(pair));
     compare(result, count);
     translate(result, count);
@@ -120,6 +150,7 @@ int main(void)
         8, 1, verdicts[0],
     };
     list(result, count, told, COUNT(told));
+    start_at_level();
 
     uint64_t refusal = napspruce_measure(circuit, COUNT(circuit) - 3);
     expect("a line less is refused with 5, table 1", NAPSPRUCE_IS_REFUSAL(refusal) && refusal == 1000051);

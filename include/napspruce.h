@@ -2,10 +2,14 @@
  *
  * A slice is an aligned pointer and a count of the elements behind it: bytes of a text, numbers of a table. A count of 0 may come with any pointer,
  * NULL too. A lent buffer, which is one that is not const, must overlap no other slice of the same call. Nothing is asked of the contents: each
- * call tests what it relies on, takes no memory but the stack (180 KB for a listing, the largest), and keeps nothing between calls.
+ * call tests what it relies on, takes no memory but the stack (205 KB for a listing, the largest), and keeps nothing between calls.
  *
  * A text is lines of 19 bytes: three numbers from 0 to 999,999, each right-justified in six columns with blanks before it and no leading zero, and
  * byte 10. A table holds the same numbers, three a line. README.md, Files, says what the lines of circuits, rules and sites are.
+ *
+ * Right after its head a circuit may have starting lines, (4, input reference, level), in ascending reference, for inputs that arrive at a level
+ * from 1 to 255; any other input starts at 0. All lines there that begin with 4 are starting lines, whatever else is in them; the head does not
+ * count them. An input's starting level is its depth, and the level that a program loads it at.
  *
  * Each call gives one number. It is a refusal, which leaves every lent buffer as it was, or it holds the results, which the macros take out;
  * then a buffer has its results in front, and beyond them what it held before. A refusal is 1,000,000 + 10 x number + table. Its number:
@@ -15,12 +19,13 @@
  *    2  a lent buffer is shorter than needed
  *    3  a line is not written as above, or a number to be written exceeds 999,999
  *    4  a number of a head is outside its limits
- *    5  there are more or fewer lines than the heads say
+ *    5  there are more or fewer lines than the heads say, beside a circuit's starting lines
  *    6  a gate's kind is not 1 (XOR) or 2 (AND), or a closing line is not 3, reference, 0
  *    7  a reference is not below its gate, or a closing one is beyond its side or circuit
  *    8  a hole, or a left gate but the last, is no operand of a later left gate
  *    9  the register limit is not 1 to 1,024
  *   10  the need, which is the most values held at once, exceeds the limit
+ *   11  a starting line's reference is not an input or not above that of the line before, or its level is not 1 to 255; tested right after 5
  *
  * and its table: 1 circuit, 2 rules, 3 sites, or 0 where the fault lies in none of these: 2, 9, 10, the evaluator's bytes, and a text or table
  * read or written by itself.
@@ -33,11 +38,11 @@
 
 /* How many elements the lent buffers have at least: numbers of a circuit's table, verdicts, output bytes, numbers of a program, bytes of a
  * listing. */
-#define NAPSPRUCE_TABLE 6915
+#define NAPSPRUCE_TABLE 8451
 #define NAPSPRUCE_VERDICTS 512
 #define NAPSPRUCE_OUTPUTS 256
 #define NAPSPRUCE_PROGRAM 11272
-#define NAPSPRUCE_LISTING 53580
+#define NAPSPRUCE_LISTING 63308
 
 /* Whether a call was refused, and why; each takes a call's result, a uint64_t. */
 #define NAPSPRUCE_IS_REFUSAL(r) ((r) / 1000 == 1000)
@@ -73,12 +78,13 @@ uint64_t napspruce_write(const uint32_t *table, size_t table_len, uint8_t *text,
 
 /* Evaluates a circuit on input bytes, one an input (0 is 0, any other value 1), into `outputs`, one byte, 0 or 1, an output;
  * NAPSPRUCE_OUTPUTS bytes at least. Gives the number of outputs.
- * Refusals: 1 of the circuit; 2; 4 to 7 of the circuit; 1 with table 0, for the input bytes. */
+ * Refusals: 1 of the circuit; 2; 4, 5, 11, 6, 7 of the circuit; 1 with table 0, for the input bytes. */
 uint64_t napspruce_evaluate(const uint32_t *circuit, size_t circuit_len, const uint8_t *inputs, size_t inputs_len,
                             uint8_t *outputs, size_t outputs_len);
 
-/* Gives the multiplicative depth D of a circuit and its critical count N, the number of live AND gates that lie on a path with D of them.
- * Refusals: 1, 4 to 7 of the circuit. */
+/* Gives the multiplicative depth D of a circuit, up to 2,303, and its critical count N: the number of live AND gates whose depth, with the most
+ * AND gates that lie above them on a path to an output, makes D.
+ * Refusals: 1, 4, 5, 11, 6, 7 of the circuit. */
 uint64_t napspruce_measure(const uint32_t *circuit, size_t circuit_len);
 
 /* Judges a rule by its number, from 1. Gives 1 if there is no such rule, 2 if it is not sound, else 0.
@@ -88,29 +94,32 @@ uint64_t napspruce_judge(const uint32_t *rules, size_t rules_len, uint32_t rule)
 /* Matches a rule at a gate of the trimmed circuit, with the operands of left gate i, the first being 0, crossed where bit i of the mask, worth
  * 2 to the power i, is 1. Gives 1 if there is no such rule, 2 if it is not sound, 3 if the reference is not a gate, 4 if there is no match or
  * the mask has a bit beyond the left gates, else 0.
- * Refusals: 1 of the circuit, 1 of the rules; 4 to 7 of the circuit; 4 to 8 of the rules. */
+ * Refusals: 1 of the circuit, 1 of the rules; 4, 5, 11, 6, 7 of the circuit; 4 to 8 of the rules. */
 uint64_t napspruce_match(const uint32_t *circuit, size_t circuit_len, const uint32_t *rules, size_t rules_len,
                          uint32_t rule, uint32_t gate, uint32_t mask);
 
 /* Trims the circuit and rewrites it at the sites in order. Its table is then in `result`, with the numbers of its gates and outputs in
- * result[1] and result[2]; and a byte a site in `verdicts`: 1 to 4 as above, 5 more than 2,048 gates with the right gates in the place of the
- * site's, before what is dead then is trimmed, 6 the pair (D, N) would not be lower, 0 kept. `result` and `work` have NAPSPRUCE_TABLE numbers
- * at least, `verdicts` NAPSPRUCE_VERDICTS bytes; what `work` holds after a success is not told. Gives the pair of the circuit handed over, the
- * pair of the one handed back, and how many sites were kept.
- * Refusals: 1 of the circuit, the rules, the sites; 2; 4 to 7 of the circuit; 4 to 8 of the rules; 4 and 5 of the sites. */
+ * result[1] and result[2], and with the starting lines of `circuit` right after the head: only its gates may be more or fewer than those of
+ * `circuit`, so that it has circuit_len - 3 x circuit[1] + 3 x result[1] numbers. And a byte a site is in `verdicts`: 1 to 4 as above, 5 more than
+ * 2,048 gates with the right gates in the place of the site's, before what is dead then is trimmed, 6 the pair (D, N) would not be lower, 0 kept.
+ * `result` and `work` have NAPSPRUCE_TABLE numbers at least, `verdicts` NAPSPRUCE_VERDICTS bytes; what `work` holds after a success is not told.
+ * Gives the pair of the circuit handed over, the pair of the one handed back, and how many sites were kept.
+ * Refusals: 1 of the circuit, the rules, the sites; 2; 4, 5, 11, 6, 7 of the circuit; 4 to 8 of the rules; 4 and 5 of the sites. */
 uint64_t napspruce_rewrite(const uint32_t *circuit, size_t circuit_len, const uint32_t *rules, size_t rules_len,
                            const uint32_t *sites, size_t sites_len, uint32_t *result, size_t result_len,
                            uint32_t *work, size_t work_len, uint8_t *verdicts, size_t verdicts_len);
 
 /* Trims the circuit and translates it to a program for a machine of `limit` registers, into `program`, of NAPSPRUCE_PROGRAM numbers at least,
- * four an instruction: (4, d, reference, 0) loads a constant or input into register d; (1, d, a, b) and (2, d, a, b) put the XOR or AND of
- * registers a and b into d; (3, a, 0, 0) emits register a. Gives the need and the number of instructions.
- * Refusals: 1 of the circuit; 2; 4 to 7 of the circuit; 9; 10. */
+ * four an instruction: (4, d, reference, 0) loads a constant or input into register d, an input at its starting level; (1, d, a, b) and
+ * (2, d, a, b) put the XOR or AND of registers a and b into d; (3, a, 0, 0) emits register a. Gives the need and the number of
+ * instructions.
+ * Refusals: 1 of the circuit; 2; 4, 5, 11, 6, 7 of the circuit; 9; 10. */
 uint64_t napspruce_translate(const uint32_t *circuit, size_t circuit_len, uint32_t limit, uint32_t *program, size_t program_len);
 
 /* Rewrites as napspruce_rewrite does, from texts to a text: into `listing`, of NAPSPRUCE_LISTING bytes at least, the lines of the circuit handed
- * back; 5, old D, old N; 6, new D, new N; 7, sites, kept; and 8, site number, verdict for each site. Gives the listing's length.
- * Refusals: 1, then 3, of the circuit, the rules, the sites; 2; 4 to 7 of the circuit; 4 to 8 of the rules; 4 and 5 of the sites. */
+ * back, its starting lines among them; 5, old D, old N; 6, new D, new N; 7, sites, kept; and 8, site number, verdict for each site. Each text
+ * is tested whole, whatever its length. Gives the listing's length.
+ * Refusals: 1, then 3, of the circuit, the rules, the sites; 2; 4, 5, 11, 6, 7 of the circuit; 4 to 8 of the rules; 4 and 5 of the sites. */
 uint64_t napspruce_listing(const uint8_t *circuit, size_t circuit_len, const uint8_t *rules, size_t rules_len,
                            const uint8_t *sites, size_t sites_len, uint8_t *listing, size_t listing_len);
 

@@ -62,14 +62,18 @@ impl<'a> Job<'a> {
     }
 }
 
-/// The jobs on the workloads of one size: all three are rewritten, the first
-/// is for the other calls too.
-pub fn of_workloads(workloads: &[Workload; 3]) -> Vec<Job<'_>> {
-    let mut jobs = Vec::from(line_jobs(&workloads[0]));
-    jobs.extend(circuit_jobs(&workloads[0]));
-    jobs.extend(rule_jobs(&workloads[0]));
+/// The jobs on the workloads of one size: all four are rewritten, the first is
+/// for the other calls too, and the one with starting lines is also measured
+/// and translated.
+pub fn of_workloads(workloads: &[Workload; 4]) -> Vec<Job<'_>> {
+    let [random, levels, chain, mismatch] = workloads;
+    let mut jobs = Vec::from(line_jobs(random));
+    jobs.extend([measuring_job(random), measuring_job(levels)]);
+    jobs.push(evaluating_job(random));
+    jobs.extend([translating_job(random), translating_job(levels)]);
+    jobs.extend(rule_jobs(random));
     jobs.extend(workloads.iter().map(rewriting_job));
-    jobs.extend(workloads.iter().map(listing_job));
+    jobs.extend([random, chain, mismatch].map(listing_job));
     jobs
 }
 
@@ -85,17 +89,23 @@ fn line_jobs(workload: &Workload) -> [Job<'_>; 2] {
     ]
 }
 
-fn circuit_jobs(workload: &Workload) -> [Job<'_>; 3] {
+fn measuring_job(workload: &Workload) -> Job<'_> {
     let circuit = &workload.circuit.table;
-    [
-        Job::new("measure", workload, |program, _| program.measure(circuit)),
-        Job::new("evaluate", workload, |program, buffers| {
-            program.evaluate(circuit, &workload.inputs, &mut buffers.bytes)
-        }),
-        Job::new("translate", workload, |program, buffers| {
-            program.translate(circuit, MOST_REGISTERS as u32, &mut buffers.numbers)
-        }),
-    ]
+    Job::new("measure", workload, |program, _| program.measure(circuit))
+}
+
+fn evaluating_job(workload: &Workload) -> Job<'_> {
+    let circuit = &workload.circuit.table;
+    Job::new("evaluate", workload, |program, buffers| {
+        program.evaluate(circuit, &workload.inputs, &mut buffers.bytes)
+    })
+}
+
+fn translating_job(workload: &Workload) -> Job<'_> {
+    let circuit = &workload.circuit.table;
+    Job::new("translate", workload, |program, buffers| {
+        program.translate(circuit, MOST_REGISTERS as u32, &mut buffers.numbers)
+    })
 }
 
 fn rule_jobs(workload: &Workload) -> [Job<'_>; 2] {

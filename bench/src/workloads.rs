@@ -1,6 +1,8 @@
 //! Workloads of growing size, the same on every run and machine.
 
-use crate::plain::circuit::{CIRCUIT_NUMBERS, MOST_GATES, MOST_INPUTS, MOST_OUTPUTS};
+use crate::plain::circuit::{
+    CIRCUIT_NUMBERS, HIGHEST_LEVEL, MOST_GATES, MOST_INPUTS, MOST_OUTPUTS, STARTING,
+};
 use crate::plain::gates::{AND, CLOSING, CONSTANTS, XOR};
 use crate::plain::lines::{self, Line, LINE_BYTES};
 use crate::plain::matching::match_site;
@@ -29,17 +31,32 @@ pub struct Form {
 }
 
 /// All workloads of one size.
-pub fn of_size(gates: usize) -> [Workload; 3] {
-    [random(gates), chain(gates), mismatch(gates)]
+pub fn of_size(gates: usize) -> [Workload; 4] {
+    [random(gates), levels(gates), chain(gates), mismatch(gates)]
 }
 
 /// A random circuit with rules and sites of all sorts; some gates are dead.
 pub fn random(gates: usize) -> Workload {
     let mut random = Random::new(gates);
-    let circuit = random_circuit(&mut random, gates);
+    let circuit = random_circuit(&mut random, gates * MOST_INPUTS / MOST_GATES, gates);
     let rules = stock(gates * MOST_RULES / MOST_GATES);
     let sites = mixed_sites(&mut random, &circuit, &rules);
     Workload::new("random", &mut random, circuit, rules, sites)
+}
+
+/// The same with as many inputs as there may be at every size, each of which
+/// has a starting line.
+pub fn levels(gates: usize) -> Workload {
+    let mut random = Random::new(gates);
+    let mut circuit = random_circuit(&mut random, MOST_INPUTS, gates);
+    let starts = (CONSTANTS..CONSTANTS + MOST_INPUTS).map(|input| {
+        let level = 1 + random.below(HIGHEST_LEVEL as usize);
+        [STARTING, input as u32, level as u32]
+    });
+    circuit.splice(1..1, starts);
+    let rules = stock(gates * MOST_RULES / MOST_GATES);
+    let sites = mixed_sites(&mut random, &circuit, &rules);
+    Workload::new("levels", &mut random, circuit, rules, sites)
 }
 
 /// A long chain of ANDs with a rule that balances it; as many sites as
@@ -171,8 +188,7 @@ const NEAR: usize = 48;
 
 /// Gates with operands mostly near, sometimes far; the outputs are gates that
 /// no other uses, so that most of the circuit is live.
-fn random_circuit(random: &mut Random, gates: usize) -> Vec<Line> {
-    let inputs = gates * MOST_INPUTS / MOST_GATES;
+fn random_circuit(random: &mut Random, inputs: usize, gates: usize) -> Vec<Line> {
     let first = CONSTANTS + inputs;
     let mut used = vec![false; first + gates];
     let mut lines = Vec::new();

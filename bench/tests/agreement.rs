@@ -13,7 +13,7 @@ use bench::plain::refusal::{Answer, Refusal};
 use bench::plain::sites::MOST_SITES;
 use bench::plain::translation::PROGRAM_NUMBERS;
 use bench::plain::{depth, evaluation, lines, listing, matching, rewriting, rules, translation};
-use bench::workloads::random;
+use bench::workloads::{levels, random, Workload};
 use evaluator::generator::{case, Case};
 use evaluator::lines::text_of;
 use evaluator::random::Random;
@@ -185,7 +185,7 @@ impl Seen {
 
     /// Every outcome that a call has by the paper has been seen, and no other.
     fn is_complete(&self) {
-        let circuit: &[_] = &[(4, 1), (5, 1), (6, 1), (7, 1)];
+        let circuit: &[_] = &[(4, 1), (5, 1), (11, 1), (6, 1), (7, 1)];
         let rules: &[_] = &[(4, 2), (5, 2), (6, 2), (7, 2), (8, 2)];
         let three: &[_] = &[circuit, rules, &[(4, 3), (5, 3)]].concat();
         let torn: &[_] = &[(1, 1), (1, 2), (1, 3)];
@@ -242,25 +242,59 @@ fn largest_rules() -> Vec<[u32; 3]> {
     lines
 }
 
+fn agreed_listing([circuit, rules, sites]: &[Vec<u8>; 3]) -> Answer<usize> {
+    agree(
+        old_bytes(LISTING_BYTES),
+        |buffer| listing::listing(circuit, rules, sites, buffer),
+        |buffer| ours(evaluator::listing::listing(circuit, rules, sites, buffer)),
+    )
+}
+
+/// The texts of a workload, with as many rules as there may be.
+fn largest_texts(workload: &Workload) -> [Vec<u8>; 3] {
+    let [circuit, _, sites] = workload.forms().map(|form| form.text.clone());
+    [circuit, text_of(&largest_rules()), sites]
+}
+
+fn refused<T>(number: u32, table: u32) -> Answer<T> {
+    Err(Refusal { number, table })
+}
+
 #[test]
 fn largest_texts_agree_and_so_do_longer_ones() {
-    let workload = random(2048);
-    let [circuit, _, sites] = workload.forms().map(|form| form.text.clone());
-    let whole = [circuit, text_of(&largest_rules()), sites];
-    let mut answers = Vec::new();
-    for longer in 0..=whole.len() {
-        let mut texts = whole.clone();
-        if let Some(text) = texts.get_mut(longer) {
-            text.extend_from_within(text.len() - 19..);
+    for workload in [random(2048), levels(2048)] {
+        let whole = largest_texts(&workload);
+        let mut answers = Vec::new();
+        for longer in 0..=whole.len() {
+            let mut texts = whole.clone();
+            if let Some(text) = texts.get_mut(longer) {
+                text.extend_from_within(text.len() - 19..);
+            }
+            answers.push(agreed_listing(&texts));
         }
-        let [circuit, rules, sites] = &texts;
-        answers.push(agree(
-            old_bytes(LISTING_BYTES),
-            |buffer| listing::listing(circuit, rules, sites, buffer),
-            |buffer| ours(evaluator::listing::listing(circuit, rules, sites, buffer)),
-        ));
+        assert_eq!(answers[..3], [1, 2, 3].map(|table| refused(5, table)));
+        assert!(answers[3].is_ok());
     }
-    let too_long = |table| Err(Refusal { number: 5, table });
-    assert_eq!(answers[..3], [1, 2, 3].map(too_long));
-    assert!(answers[3].is_ok());
+}
+
+#[test]
+fn more_starting_lines_than_a_largest_circuit_has() {
+    let workload = levels(2048);
+    let [circuit, rules, sites] = largest_texts(&workload);
+    let (head, rest) = circuit.split_at(19);
+    for more in [1, 2, 88, 3000] {
+        let starting = b"     4     2     1\n".repeat(more);
+        let longer = [head, &starting, rest].concat();
+        let answer = |circuit| agreed_listing(&[circuit, rules.clone(), sites.clone()]);
+        assert_eq!(answer(longer.clone()), refused(11, 1));
+        // With a line too many or too few it is another refusal, and with one
+        // that is none, however far behind, a third.
+        let too_many = [&longer, &rest[rest.len() - 19..]].concat();
+        assert_eq!(answer(too_many), refused(5, 1));
+        assert_eq!(answer(longer[..longer.len() - 19].to_vec()), refused(5, 1));
+        let misprinted = [&longer, &[b' '; 19][..]].concat();
+        assert_eq!(answer(misprinted), refused(3, 1));
+        let starting_only = [head, &starting].concat();
+        assert_eq!(answer(starting_only), refused(5, 1));
+    }
 }

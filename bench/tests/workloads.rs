@@ -10,7 +10,7 @@ use bench::plain::rewriting::rewrite;
 use bench::plain::sites::MOST_SITES;
 use bench::plain::translation::PROGRAM_NUMBERS;
 use bench::program::{is_refusal, Plain};
-use bench::workloads::{chain, mismatch, of_size, random, Workload, SIZES};
+use bench::workloads::{chain, levels, mismatch, of_size, random, Workload, SIZES};
 
 /// The verdicts of a workload's sites.
 fn verdicts(workload: &Workload) -> Vec<u8> {
@@ -47,13 +47,24 @@ fn every_job_succeeds() {
 #[test]
 fn random_sites_are_of_all_sorts() {
     for gates in SIZES {
-        let verdicts = verdicts(&random(gates));
-        for verdict in [0, 2, 4, 6] {
-            assert!(
-                count(&verdicts, verdict) > 0,
-                "{gates} gates, verdict {verdict}"
-            );
+        for workload in [random(gates), levels(gates)] {
+            let verdicts = verdicts(&workload);
+            for verdict in [0, 2, 4, 6] {
+                let name = workload.name;
+                let found = count(&verdicts, verdict) > 0;
+                assert!(found, "{name}: {gates} gates, verdict {verdict}");
+            }
         }
+    }
+}
+
+#[test]
+fn every_input_arrives_at_a_level() {
+    for gates in SIZES {
+        let workload = levels(gates);
+        let lines = workload.circuit.table.as_chunks::<3>().0;
+        let starting = lines[1..].iter().take_while(|line| line[0] == 4);
+        assert_eq!((lines[0][0], starting.count()), (512, 512));
     }
 }
 

@@ -23,7 +23,8 @@ pub fn measure(circuit: &[u32]) -> Answer<Pair> {
 /// gates of a rule's right side.
 pub const MOST_PLACES: usize = MOST_REFERENCES + MOST_SIDE_GATES;
 
-/// One number a place; no depth exceeds the number of gates.
+/// One number a place; no depth exceeds the number of gates by more than a
+/// starting level.
 pub type Places = [u16; MOST_PLACES];
 
 /// Depths from below and reaches from above. Gates are handed over in blocks
@@ -43,8 +44,11 @@ impl Survey {
         }
     }
 
-    /// Surveys a whole circuit.
+    /// Surveys a whole circuit, nothing having been surveyed before.
     pub fn circuit(&mut self, circuit: Circuit) -> Pair {
+        for &[_, reference, level] in circuit.starts {
+            self.depth[reference as usize] = level as u16;
+        }
         self.rise(circuit.gates, circuit.first_gate());
         let depth = self.start_fall(circuit.outputs());
         let critical = self.fall(circuit.gates, circuit.first_gate(), depth);

@@ -58,6 +58,17 @@ pub fn read_into<'a>(text: &[u8], table: u32, room: &'a mut [Line]) -> Answer<&'
     Ok(&room[..stored.len()])
 }
 
+/// How many lines of a text there are from the second on that begin with a
+/// number of one digit, if all are lines.
+pub fn run_of(digit: u8, text: &[u8]) -> usize {
+    let (lines, _) = text.as_chunks::<LINE_BYTES>();
+    let first = [b' ', b' ', b' ', b' ', b' ', digit];
+    let run = lines[1..]
+        .iter()
+        .take_while(|line| line.starts_with(&first));
+    run.count()
+}
+
 /// The columns of a line's three numbers.
 fn columns_of(line: &TextLine) -> &[[u8; COLUMNS]] {
     line.as_chunks().0

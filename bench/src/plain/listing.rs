@@ -1,8 +1,8 @@
 //! The host service: three texts to a printed listing.
 
-use super::circuit::MOST_LINES;
+use super::circuit::{Circuit, MOST_LINES, STARTING};
 use super::depth::Pair;
-use super::lines::{read_into, text_of, Line, TextLine, LINE_BYTES};
+use super::lines::{read_into, run_of, text_of, Line, TextLine, LINE_BYTES};
 use super::refusal::{require_room, Answer, CIRCUIT, RULES, SITES};
 use super::rewriting::{Done, Order};
 use super::rules::MOST_RULE_LINES;
@@ -14,16 +14,20 @@ pub const LISTING_BYTES: usize = LINE_BYTES * (MOST_LINES + 3 + MOST_SITES);
 /// Writes the listing of three texts into a lent buffer; gives its length.
 pub fn listing(circuit: &[u8], rules: &[u8], sites: &[u8], buffer: &mut [u8]) -> Answer<usize> {
     // One line more than a table can have is enough to see that a text has
-    // too many.
+    // too many. The circuit's lines are counted in the text, since those that
+    // find no room may be starting lines.
     let mut rooms = (
-        [[0; 3]; MOST_LINES + 1],
+        [[0; 3]; MOST_LINES],
         [[0; 3]; MOST_RULE_LINES + 1],
         [[0; 3]; MOST_SITE_LINES + 1],
     );
-    let circuit = read_into(circuit, CIRCUIT, &mut rooms.0)?;
+    let text = circuit;
+    let circuit = read_into(text, CIRCUIT, &mut rooms.0)?;
     let rules = read_into(rules, RULES, &mut rooms.1)?;
     let sites = read_into(sites, SITES, &mut rooms.2)?;
     require_room(buffer, LISTING_BYTES)?;
+    let starting = run_of(b'0' + STARTING as u8, text);
+    let circuit = Circuit::counted(circuit, text.len() / LINE_BYTES, starting)?;
     let order = Order::checked(circuit, rules, sites)?;
     let mut room = [[0; 3]; MOST_LINES];
     let mut spare = [[0; 3]; MOST_LINES];

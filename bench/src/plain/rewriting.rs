@@ -35,7 +35,7 @@ pub fn rewrite(
     require_room(result, CIRCUIT_NUMBERS)?;
     require_room(work, CIRCUIT_NUMBERS)?;
     require_room(verdicts, MOST_SITES)?;
-    let order = Order::checked(circuit, rules, sites)?;
+    let order = Order::checked(Circuit::checked(circuit)?, rules, sites)?;
     let mut spare = [[0; 3]; MOST_LINES];
     let done = order.run(work.as_chunks_mut().0, &mut spare, verdicts);
     // The result is copied once at the end: what lies beyond it in the lent
@@ -66,10 +66,11 @@ pub struct Done<'a> {
 }
 
 impl<'a> Order<'a> {
-    /// Tests three tables' lines for 4 to 8, one table after another.
-    pub fn checked(circuit: &'a [Line], rules: &'a [Line], sites: &'a [Line]) -> Answer<Self> {
+    /// Tests the lines of rules and sites for 4 to 8, once the circuit is
+    /// known to be well-formed.
+    pub fn checked(circuit: Circuit<'a>, rules: &'a [Line], sites: &'a [Line]) -> Answer<Self> {
         Ok(Order {
-            circuit: Circuit::checked(circuit)?,
+            circuit,
             rules: Rules::checked(rules)?,
             sites: checked_sites(sites)?,
         })
@@ -146,9 +147,11 @@ impl Scratch {
 }
 
 /// The current circuit, trimmed.
-struct Run<'a, 'b> {
+struct Run<'a, 'b, 'c> {
     inputs: usize,
-    /// Its gates, after a place for the head.
+    /// The starting lines, which stay.
+    starts: &'c [Line],
+    /// Its gates, after places for the head and the starting lines.
     lines: &'b mut [Line],
     gates: usize,
     outputs: Outputs,
@@ -159,9 +162,9 @@ struct Run<'a, 'b> {
     trimmer: Trimmer<'a, 'b>,
 }
 
-impl<'a, 'b> Run<'a, 'b> {
+impl<'a, 'b, 'c> Run<'a, 'b, 'c> {
     fn new(
-        circuit: Circuit,
+        circuit: Circuit<'c>,
         room: &'b mut [Line],
         spare: &'b mut [Line],
         scratch: &'a mut Scratch,
@@ -169,10 +172,13 @@ impl<'a, 'b> Run<'a, 'b> {
         let first = circuit.first_gate();
         let survey = &mut scratch.survey;
         let pair = survey.circuit(circuit);
-        let mut trimmer = Trimmer::new(first, room, &mut scratch.names, &mut scratch.depth);
+        scratch.depth[..first].copy_from_slice(&survey.depth[..first]);
+        let top = 1 + circuit.starts.len();
+        let mut trimmer = Trimmer::new(first, top, room, &mut scratch.names, &mut scratch.depth);
         trimmer.append(survey, circuit.gates, first);
         let mut run = Run {
             inputs: circuit.inputs,
+            starts: circuit.starts,
             lines: spare,
             gates: 0,
             outputs: Outputs::new(circuit.outputs()),
@@ -188,7 +194,7 @@ impl<'a, 'b> Run<'a, 'b> {
     fn step(&mut self, judge: &mut Judge, [rule, gate, mask]: Line) -> Result<(), Verdict> {
         let rule = judge.rules.rule(judge.sound_index(rule)?);
         let (first, gate) = (self.trimmer.first, gate as usize);
-        let gates = &self.lines[1..][..self.gates];
+        let gates = &self.lines[self.trimmer.top..][..self.gates];
         if !(first..first + gates.len()).contains(&gate) {
             return Err(3);
         }
@@ -207,7 +213,8 @@ impl<'a, 'b> Run<'a, 'b> {
     /// The pair after the replacement if it is lower than the current one.
     fn lower_pair(&mut self, new: &Replacement) -> Option<Pair> {
         let first = self.trimmer.first;
-        let (below, above) = new.around(&self.lines[1..][..self.gates], first);
+        let gates = &self.lines[self.trimmer.top..][..self.gates];
+        let (below, above) = new.around(gates, first);
         let survey = &mut *self.survey;
         survey.depth[..new.gate].copy_from_slice(&self.trimmer.depth[..new.gate]);
         survey.rise(new.right(), new.base);
@@ -228,7 +235,8 @@ impl<'a, 'b> Run<'a, 'b> {
 
     /// Replaces and trims in one go, by the survey just made.
     fn keep(&mut self, new: &Replacement, pair: Pair) {
-        let (below, above) = new.around(&self.lines[1..][..self.gates], self.trimmer.first);
+        let gates = &self.lines[self.trimmer.top..][..self.gates];
+        let (below, above) = new.around(gates, self.trimmer.first);
         let (survey, trimmer) = (&*self.survey, &mut self.trimmer);
         trimmer.append(survey, below, trimmer.first);
         trimmer.append(survey, new.right(), new.base);
@@ -250,11 +258,13 @@ impl<'a, 'b> Run<'a, 'b> {
         let outputs = &self.outputs;
         let counts = [self.inputs, self.gates, outputs.count];
         self.lines[0] = counts.map(|count| count as u32);
-        let closings = self.lines[1 + self.gates..].iter_mut();
+        let top = self.trimmer.top;
+        self.lines[1..top].copy_from_slice(self.starts);
+        let closings = self.lines[top + self.gates..].iter_mut();
         for (line, output) in closings.zip(outputs.references()) {
             *line = [CLOSING, output as u32, 0];
         }
-        &self.lines[..1 + self.gates + outputs.count]
+        &self.lines[..top + self.gates + outputs.count]
     }
 }
 
@@ -334,17 +344,20 @@ impl Replacement {
 /// Puts the live gates of blocks down one after another, renumbered.
 struct Trimmer<'a, 'b> {
     first: usize,
+    /// The place of the first gate's line.
+    top: usize,
     lines: &'b mut [Line],
     gates: usize,
     /// The new reference of each place; constants and inputs keep theirs.
     names: &'a mut Places,
-    /// The depth of each new reference.
+    /// The depth of each new reference, and those of constants and inputs.
     depth: &'a mut Places,
 }
 
 impl<'a, 'b> Trimmer<'a, 'b> {
     fn new(
         first: usize,
+        top: usize,
         lines: &'b mut [Line],
         names: &'a mut Places,
         depth: &'a mut Places,
@@ -354,6 +367,7 @@ impl<'a, 'b> Trimmer<'a, 'b> {
         }
         Trimmer {
             first,
+            top,
             lines,
             gates: 0,
             names,
@@ -370,7 +384,7 @@ impl<'a, 'b> Trimmer<'a, 'b> {
             let own = self.first + self.gates;
             let operands = [left, right].map(|operand| self.names[operand as usize]);
             let [left, right] = operands.map(u32::from);
-            self.lines[1 + self.gates] = [kind, left, right];
+            self.lines[self.top + self.gates] = [kind, left, right];
             self.names[place] = own as u16;
             self.depth[own] = survey.depth[place];
             self.gates += 1;

@@ -2,6 +2,7 @@
 use crate::printing::print_byte;
 use crate::printing::print_number;
 use circuit::checked::CONSTANTS;
+use circuit::checked::START;
 use libc::STDOUT_FILENO;
 use translator::MAX_REGISTERS;
 ghost use Prim.Native.Nat.{_<_, _≤_};
@@ -25,6 +26,21 @@ fn start_bit(inputs: &[u8], reference: u32) -> u8 {
     if inputs[k] == 0 { 0 } else { 1 }
 }
 
+// The level that a starting line of the circuit gives for a constant or an input, else 0.
+fn start_level(circuit: &[u32], reference: u32) -> u32 {
+    let mut p: usize = 3;
+    while p + 2 < circuit.len() {
+        if circuit[p] != START {
+            return 0;
+        }
+        if circuit[p + 1] == reference {
+            return circuit[p + 2];
+        }
+        p += 3;
+    }
+    0
+}
+
 fn gate_bit(kind: u32, x: u8, y: u8) -> u8 {
     if kind == 2 { x & y } else { x ^ y }
 }
@@ -32,7 +48,7 @@ fn gate_bit(kind: u32, x: u8, y: u8) -> u8 {
 fn gate_level(kind: u32, a: u32, b: u32) -> u32 {
     let level = if a < b { b } else { a };
     if kind == 2 {
-        // Levels stay far below 4,096, as no circuit has so many gates: the test only spares a proof.
+        // Levels stay far below 4,096, as no circuit is so deep: the test only spares a proof.
         if level < 4096 {
             return level + 1;
         }
@@ -45,11 +61,12 @@ fn load(
     levels: &mut [u32; MAX_REGISTERS],
     d: usize,
     bit: u8,
+    level: u32,
 ) -> bool
     requires { ⌜ d < maxRegisters ⌝ }
 {
     bits[d] = bit;
-    levels[d] = 0;
+    levels[d] = level;
     bit != NOTHING
 }
 
@@ -85,6 +102,7 @@ fn emit(bits: &[u8; MAX_REGISTERS], levels: &[u32; MAX_REGISTERS], a: usize) -> 
 fn perform(
     bits: &mut [u8; MAX_REGISTERS],
     levels: &mut [u32; MAX_REGISTERS],
+    circuit: &[u32],
     inputs: &[u8],
     limit: u32,
     opcode: u32,
@@ -108,7 +126,13 @@ fn perform(
             if third != 0 {
                 return false;
             }
-            load(bits, levels, first as usize, start_bit(inputs, second))
+            load(
+                bits,
+                levels,
+                first as usize,
+                start_bit(inputs, second),
+                start_level(circuit, second),
+            )
         }
         1..=2 => {
             if limit <= second {
@@ -130,8 +154,8 @@ fn perform(
     }
 }
 
-// Runs a program, and prints a bit and a level an emit.
-pub fn print_run(program: &[u32], limit: u32, inputs: &[u8]) {
+// Runs a program of the circuit, and prints a bit and a level an emit.
+pub fn print_run(circuit: &[u32], program: &[u32], limit: u32, inputs: &[u8]) {
     if MAX_LIMIT < limit {
         return;
     }
@@ -144,6 +168,7 @@ pub fn print_run(program: &[u32], limit: u32, inputs: &[u8]) {
         if !perform(
             &mut bits,
             &mut levels,
+            circuit,
             inputs,
             limit,
             program[p],

@@ -42,19 +42,19 @@ fn print_program(program: &[u32]) {
     }
 }
 
-fn print_pattern_run(program: &[u32], limit: u32, number: usize, inputs: usize)
+fn print_pattern_run(circuit: &[u32], program: &[u32], limit: u32, number: usize, inputs: usize)
     requires { ⌜ inputs ≤ maxInputs + 1 ⌝ }
 {
     let bytes = pattern(number);
     io::write_all(STDOUT_FILENO, b", run");
-    print_run(program, limit, &bytes[..inputs]);
+    print_run(circuit, program, limit, &bytes[..inputs]);
 }
 
 fn print_short(circuit: &[u32], program: &[u32], need: u32) {
     print_program(program);
     let inputs = input_count(circuit);
-    print_pattern_run(program, need, 3, inputs);
-    print_pattern_run(program, need, 1, inputs);
+    print_pattern_run(circuit, program, need, 3, inputs);
+    print_pattern_run(circuit, program, need, 1, inputs);
 }
 
 pub fn print_short_program(circuit: &[u32]) {

@@ -13,16 +13,18 @@ use Rattle.lists.specs.First.{first}
 use Rattle.lists.specs.Each.{appendEach}
 use Rattle.lists.proofs.First.{first-either}
 use Rattle.lists.proofs.Each.{each-length}
-use Rattle.circuit.specs.Circuit.{Gate, Circuit, andKind, firstGate, references}
+use Rattle.circuit.specs.Circuit.{Gate, Start, Circuit, andKind, maxLevel, constants, firstGate, references}
+use Rattle.circuit.specs.Refusal.{startsAscend, startsRight}
 use Rattle.circuit.specs.Fold.{gateValue, foldGates}
 use Rattle.circuit.specs.Evaluation.{bitOp, bitOf, startBits, bits, evaluate}
-use Rattle.circuit.specs.Depth.{plusAnd, depthOp, startDepths, depths, depth, largest, circuitDepth}
+use Rattle.circuit.specs.Depth.{plusAnd, depthOp, setLevels, startLevels, depths, depth, largest, circuitDepth}
 use Rattle.circuit.specs.ReverseDepth.{markOutputs, raise, raiseOperands, raiseGates, reverseDepths}
 use Rattle.circuit.specs.Critical.{isCritical, criticalCount}
 use Rattle.circuit.specs.Theorems.{EvaluationGivesBits}
 use Rattle.circuit.proofs.EachLaws.{count-le}
 use Rattle.circuit.proofs.FoldLaws.{one-more, fold-keeps}
 use Rattle.circuit.proofs.PassLaws.{zeros-at, mark-length, raise-length}
+use Rattle.circuit.proofs.StartLaws.{right-head, right-tail, start-length}
 
 -- ---- lengths
 
@@ -30,7 +32,7 @@ module _ (c : Circuit) where
   pub depths-length : length (depths c) ≡ references c
   unfolding depths
   depths-length =
-      each-length (gateValue depthOp 0) (c .gates) (startDepths (c .inputs)) ∙ omega (arith, length-replicate {A = ℕ} (firstGate (c .inputs)) 0)
+      each-length (gateValue depthOp 0) (c .gates) (startLevels c) ∙ omega (arith, start-length c)
 
   pub reverse-length : length (reverseDepths c) ≡ references c
   unfolding reverseDepths
@@ -75,6 +77,19 @@ raise-bound n [] d b all k = omega (arith, all k)
 raise-bound n (g ∷ gs) d b all k =
     omega (arith, operands-bound n g (raiseGates (suc n) gs d) (b + length gs) (raise-bound (suc n) gs d b all) k)
 
+-- no level is above the largest
+levels-bound : (top low : ℕ) (ss : List Start) (d : List ℕ) → startsAscend top low ss ≡ true → ((k : ℕ) → getD d k 0 ≤ maxLevel)
+    → (k : ℕ) → getD (setLevels ss d) k 0 ≤ maxLevel
+unfolding setLevels
+levels-bound top low [] d e all = all
+levels-bound top low (s ∷ ss) d e all =
+    levels-bound top (suc (s .input)) ss (set d (s .input) (s .level)) (right-tail top low s ss e)
+    (store-bound d (s .input) (s .level) maxLevel all (right-head top low s ss e .limit))
+
+start-bound : (c : Circuit) → startsRight c ≡ true → (k : ℕ) → getD (startLevels c) k 0 ≤ maxLevel
+unfolding startLevels
+start-bound c e = levels-bound (firstGate (c .inputs)) constants (c .starts) (replicate (firstGate (c .inputs)) 0) e (λ k. omega (arith, zeros-at (firstGate (c .inputs)) k))
+
 largest-bound : (xs : List ℕ) (b : ℕ) → ((i : ℕ) → getD xs i 0 ≤ b) → largest xs ≤ b
 unfolding largest
 largest-bound [] b h = omega arith
@@ -100,13 +115,14 @@ fold-depth (g ∷ gs) vs b h r =
     )
 
 module _ (c : Circuit) where
-  pub depth-le : (v : ℕ) → depth c v ≤ length (c .gates)
+  pub depth-le : startsRight c ≡ true → (v : ℕ) → depth c v ≤ maxLevel + length (c .gates)
   unfolding depths
-  depth-le v = omega (arith, fold-depth (c .gates) (startDepths (c .inputs)) 0 (λ r. omega (arith, zeros-at (firstGate (c .inputs)) r)) v)
+  depth-le e = fold-depth (c .gates) (startLevels c) maxLevel (start-bound c e)
 
-  pub circuit-depth-le : circuitDepth c ≤ length (c .gates)
+  pub circuit-depth-le : startsRight c ≡ true → circuitDepth c ≤ maxLevel + length (c .gates)
   unfolding circuitDepth
-  circuit-depth-le = largest-bound _ (length (c .gates)) (mapped (λ x. x ≤ length (c .gates)) (depth c) 0 (omega arith) depth-le (c .outputs))
+  circuit-depth-le e =
+      largest-bound _ (maxLevel + length (c .gates)) (mapped (λ x. x ≤ maxLevel + length (c .gates)) (depth c) 0 (omega arith) (depth-le e) (c .outputs))
 
   pub critical-count-le : criticalCount c ≤ length (c .gates)
   unfolding criticalCount

@@ -60,7 +60,7 @@ module _ (t : List ℕ) where
       depth-read = take-read (refs t) d (depths (decode t)) v 0 e (omega arith)
 
       pub depth-fits : getD d v 0 ≤ maxDepth
-      depth-fits = omega (arith, depth-read, depth-le (decode t) v, gates-length t, w .sized .gates-limit)
+      depth-fits = omega (arith, depth-read, depth-le (decode t) (w .starts-right) v, gates-length t, w .sized .gates-limit)
 
       pub counted-more : (u₀ u : List ℕ) → RaisedFrom t u₀ u i → i ≡ j + 1 → (g : Gate) → g ≡ getD (decode t .gates) j noGate
           → (deepest : ℕ) → deepest ≡ circuitDepth (decode t)

@@ -1,22 +1,23 @@
 -- Tables and the circuits that they say, there and back. Assumes nothing.
 use mathlib.Core.Path.{_≡_, refl, sym, ap, ap₂, _∙_}
 use mathlib.Core.Bool.{true}
-use mathlib.Core.List.{List, [], _∷_, _++_, map, append-nil}
-use Prim.Native.Nat.{ℕ, zero, suc, _*_, _≤_}
-use native.Mathlib.Nat.{not-suc-le-zero}
+use mathlib.Core.List.{List, [], _∷_, _++_, map, append-nil, append-assoc}
+use Prim.Native.Nat.{ℕ, zero, suc, _+_, _*_, _≤_}
+use native.Mathlib.Nat.{add-zero, not-suc-le-zero}
 use native.Mathlib.Omega.{arith}
 use lib.Dec.{eqb}
 use lib.ListN.{length, take, drop, getD, length-append, length-map, length-drop, take-append-drop}
 use lib.Seq.{take-all, drop-at, drop-drop}
 use borrow.Author.Tests.{eqb-true}
 use Rattle.lists.proofs.Tests.{left-of, right-of}
-use Rattle.circuit.specs.Circuit.{Gate, Circuit, closingKind}
-use Rattle.circuit.specs.Table.{inputs, gates, outputs, closingsFrom, tableEnd, linesOf, gateLines, closingLines, reference, closingLine, encodeLines, encode}
+use Rattle.circuit.specs.Circuit.{Gate, Start, Circuit, closingKind, firstGate, lineCount}
+use Rattle.circuit.specs.Table.{inputs, gates, outputs, startRun, starts, gatesFrom, closingsFrom, tableEnd, linesOf, startLines, gateLines, closingLines, startOf, startLine, reference, closingLine, decode, encodeLines, encode}
 use Rattle.circuit.specs.Each.{EachGate}
-use Rattle.circuit.specs.Refusal.{isClosing}
+use Rattle.circuit.specs.Refusal.{KnownKinds, isClosing}
 use Rattle.circuit.specs.Theorems.{DecodeAfterEncode, EncodeAfterDecode}
-use Rattle.circuit.proofs.TableLaws.{gates-length, outputs-length}
+use Rattle.circuit.proofs.TableLaws.{headed, gates-length, outputs-length}
 use Rattle.circuit.proofs.EachLaws.{all-each}
+use Rattle.circuit.proofs.StartRunLaws.{run-fits, run-lines, run-encode, run-gates}
 
 pub encode-cons : (g : Gate) (gs : List Gate) → encodeLines (g ∷ gs) ≡ g .kind ∷ g .left ∷ g .right ∷ encodeLines gs
 unfolding encodeLines
@@ -60,6 +61,22 @@ closing-map n (l ∷ ls) a =
     let z = eqb-true (l .right) 0 (right-of (eqb (l .kind) closingKind) (eqb (l .right) 0) (a .0)) in
     ap₂ _∷_ (ap₂ (λ x y. record { kind = x; left = l .left; right = y }) (sym k) (sym z)) (closing-map (suc n) ls (a .1))
 
+-- a circuit by its parts
+abbrev made : ℕ → List Start → List Gate → List ℕ → Circuit
+made n ss gs os = record { inputs = n; starts = ss; gates = gs; outputs = os }
+
+-- ---- starting lines
+
+map-start : (ss : List Start) → map startOf (map startLine ss) ≡ ss
+map-start [] = refl
+map-start (s ∷ ss) = ap (λ l. s ∷ l) (map-start ss)
+
+-- the starting lines of a circuit that was read are the table's, number for number: who writes the circuit anew copies them
+pub encode-starts : (t : List ℕ) → encodeLines (map startLine (decode t .starts)) ≡ take (3 * starts t) (drop 3 t)
+encode-starts t = ap encodeLines (run-lines (drop 3 t)) ∙ encode-lines (starts t) (drop 3 t) (run-fits (drop 3 t))
+
+-- ---- the table of a circuit, with anything behind it
+
 module _ (c : Circuit) where
   pub encode-inputs : inputs (encode c) ≡ c .inputs
   unfolding encode
@@ -73,53 +90,124 @@ module _ (c : Circuit) where
   unfolding encode
   encode-outputs = refl
 
-  pub encode-gate-lines : gateLines (encode c) ≡ c .gates
+  -- how long it is
+  pub encode-lines-length : length (encode c) ≡ 3 * lineCount c
   unfolding encode
-  encode-gate-lines = lines-encode (c .gates) (encodeLines (map closingLine (c .outputs)))
-
-  pub encode-closing-lines : closingLines (encode c) ≡ map closingLine (c .outputs)
-  unfolding encode
-  encode-closing-lines =
-      ap (linesOf (length (c .outputs)))
-      (sym (drop-drop (3 * length (c .gates)) 3 (encode c))
-      ∙ drop-at (encodeLines (c .gates)) (encodeLines (map closingLine (c .outputs))) (3 * length (c .gates)) (encode-length (c .gates))
-      ∙ sym (append-nil (encodeLines (map closingLine (c .outputs)))))
-      ∙ ap (λ k. linesOf k (encodeLines (map closingLine (c .outputs)) ++ [])) (sym (length-map (c .outputs) closingLine))
-      ∙ lines-encode (map closingLine (c .outputs)) []
-
-  pub encode-long : length (encode c) ≡ tableEnd (encode c)
-  unfolding encode
-  encode-long =
+  encode-lines-length =
       omega (
         arith,
+        length-append (encodeLines (map startLine (c .starts))) (encodeLines (c .gates) ++ encodeLines (map closingLine (c .outputs))),
         length-append (encodeLines (c .gates)) (encodeLines (map closingLine (c .outputs))),
+        encode-length (map startLine (c .starts)),
+        length-map (c .starts) startLine,
         encode-length (c .gates),
         encode-length (map closingLine (c .outputs)),
         length-map (c .outputs) closingLine,
       )
 
-pub decode-after-encode : DecodeAfterEncode
-unfolding encode
-decode-after-encode c k =
-    ap₂ (λ g o. record { inputs = c .inputs; gates = g; outputs = o }) (encode-gate-lines c) (ap (map reference) (encode-closing-lines c) ∙ map-closing (c .outputs))
+  -- a run that ends with the starting lines
+  module _ (rest : List ℕ) (e : startRun ((encodeLines (c .gates) ++ encodeLines (map closingLine (c .outputs))) ++ rest) ≡ 0) where
+    abbrev ss : List ℕ
+    ss = encodeLines (map startLine (c .starts))
 
--- a table of at least one line, by its head and the rest
-pub headed : (t : List ℕ) → 3 ≤ length t → getD t 0 0 ∷ getD t 1 0 ∷ getD t 2 0 ∷ drop 3 t ≡ t
-headed [] h = absurd (not-suc-le-zero h)
-headed (a ∷ []) h = let z : ⊥ = omega arith in absurd z
-headed (a ∷ b ∷ []) h = let z : ⊥ = omega arith in absurd z
-headed (a ∷ b ∷ c ∷ t) h = refl
+    abbrev gs : List ℕ
+    gs = encodeLines (c .gates)
+
+    abbrev os : List ℕ
+    os = encodeLines (map closingLine (c .outputs))
+
+    joined : drop 3 (encode c ++ rest) ≡ ss ++ ((gs ++ os) ++ rest)
+    unfolding encode
+    joined = append-assoc ss (gs ++ os) rest
+
+    run-before : starts (encode c ++ rest) ≡ length (c .starts)
+    run-before = ap startRun joined ∙ run-encode (c .starts) ((gs ++ os) ++ rest) ∙ ap (λ n. length (c .starts) + n) e ∙ add-zero (length (c .starts))
+
+    gates-behind : drop (gatesFrom (encode c ++ rest)) (encode c ++ rest) ≡ gs ++ (os ++ rest)
+    gates-behind =
+        sym (drop-drop (3 * starts (encode c ++ rest)) 3 (encode c ++ rest)) ∙ ap (drop (3 * starts (encode c ++ rest))) joined
+        ∙ drop-at ss ((gs ++ os) ++ rest) (3 * starts (encode c ++ rest))
+        (omega (arith, encode-length (map startLine (c .starts)), length-map (c .starts) startLine, run-before))
+        ∙ append-assoc gs os rest
+
+    start-lines-before : startLines (encode c ++ rest) ≡ map startLine (c .starts)
+    start-lines-before =
+        ap₂ linesOf (run-before ∙ sym (length-map (c .starts) startLine)) joined ∙ lines-encode (map startLine (c .starts)) ((gs ++ os) ++ rest)
+
+    gate-lines-before : gateLines (encode c ++ rest) ≡ c .gates
+    unfolding encode
+    gate-lines-before = ap (linesOf (length (c .gates))) gates-behind ∙ lines-encode (c .gates) (os ++ rest)
+
+    closing-lines-before : closingLines (encode c ++ rest) ≡ map closingLine (c .outputs)
+    unfolding encode
+    closing-lines-before =
+        ap (linesOf (length (c .outputs)))
+        (sym (drop-drop (3 * length (c .gates)) (gatesFrom (encode c ++ rest)) (encode c ++ rest)) ∙ ap (drop (3 * length (c .gates))) gates-behind
+        ∙ drop-at gs (os ++ rest) (3 * length (c .gates)) (encode-length (c .gates)))
+        ∙ ap (λ k. linesOf k (os ++ rest)) (sym (length-map (c .outputs) closingLine)) ∙ lines-encode (map closingLine (c .outputs)) rest
+
+    pub decode-before : decode (encode c ++ rest) ≡ c
+    unfolding encode
+    decode-before =
+        ap (λ x. made (c .inputs) x (gateLines (encode c ++ rest)) (map reference (closingLines (encode c ++ rest))))
+        (ap (map startOf) start-lines-before ∙ map-start (c .starts))
+        ∙ ap₂ (λ x y. made (c .inputs) (c .starts) x y) gate-lines-before (ap (map reference) closing-lines-before ∙ map-closing (c .outputs))
+
+  -- ---- and with nothing behind it
+
+  started : starts (encode c) ≡ length (c .starts) + startRun (encodeLines (c .gates) ++ encodeLines (map closingLine (c .outputs)))
+  unfolding encode
+  started = run-encode (c .starts) (encodeLines (c .gates) ++ encodeLines (map closingLine (c .outputs)))
+
+  -- where it is as long as it says, nothing but its starting lines is taken for one
+  pub decode-long : length (encode c) ≡ tableEnd (encode c) → decode (encode c) ≡ c
+  decode-long l =
+      let behind = encodeLines (c .gates) ++ encodeLines (map closingLine (c .outputs)) in
+      let e : startRun behind ≡ 0 = omega (arith, l, encode-lines-length, encode-gates, encode-outputs, started) in
+      ap decode (sym (append-nil (encode c))) ∙ decode-before [] (ap startRun (append-nil behind) ∙ e)
+
+  -- where gates are of known kinds
+
+  module _ (k : KnownKinds c) where
+    ends : startRun ((encodeLines (c .gates) ++ encodeLines (map closingLine (c .outputs))) ++ []) ≡ 0
+    ends = ap startRun (append-nil _) ∙ run-gates (firstGate (c .inputs)) (c .gates) (c .outputs) k
+
+    alone : encode c ++ [] ≡ encode c
+    alone = append-nil (encode c)
+
+    pub encode-start-count : starts (encode c) ≡ length (c .starts)
+    encode-start-count = ap starts (sym alone) ∙ run-before [] ends
+
+    pub encode-gate-lines : gateLines (encode c) ≡ c .gates
+    encode-gate-lines = ap gateLines (sym alone) ∙ gate-lines-before [] ends
+
+    pub encode-closing-lines : closingLines (encode c) ≡ map closingLine (c .outputs)
+    encode-closing-lines = ap closingLines (sym alone) ∙ closing-lines-before [] ends
+
+    pub encode-long : length (encode c) ≡ tableEnd (encode c)
+    encode-long = omega (arith, encode-lines-length, encode-start-count, encode-gates, encode-outputs)
+
+    pub decode-encode : decode (encode c) ≡ c
+    decode-encode = ap decode (sym alone) ∙ decode-before [] ends
+
+pub decode-after-encode : DecodeAfterEncode
+decode-after-encode = decode-encode
 
 pub encode-after-decode : EncodeAfterDecode
 unfolding encode
 encode-after-decode t w =
+    let s = starts t in
     let g = gates t in
     let o = outputs t in
-    let lines : encodeLines (gateLines t) ≡ take (3 * g) (drop 3 t) = encode-lines g (drop 3 t) (omega (arith, length-drop 3 t, w .sized)) in
-    let rest : drop (closingsFrom t) t ≡ drop (3 * g) (drop 3 t) = sym (drop-drop (3 * g) 3 t) in
-    let closings : encodeLines (map closingLine (map reference (closingLines t))) ≡ drop (3 * g) (drop 3 t) =
+    let lines : encodeLines (gateLines t) ≡ take (3 * g) (drop (gatesFrom t) t) =
+    encode-lines g (drop (gatesFrom t) t) (omega (arith, length-drop (gatesFrom t) t, w .sized)) in
+    let closings : encodeLines (map closingLine (map reference (closingLines t))) ≡ drop (3 * g) (drop (gatesFrom t) t) =
     ap encodeLines (closing-map 0 (closingLines t) (all-each isClosing 0 (closingLines t) (w .closing-kinds)))
     ∙ encode-lines o (drop (closingsFrom t) t) (omega (arith, length-drop (closingsFrom t) t, w .sized))
     ∙ take-all (3 * o) (drop (closingsFrom t) t) (omega (arith, length-drop (closingsFrom t) t, w .sized))
-    ∙ rest in
-    rw (gates-length t, outputs-length t, lines, closings, take-append-drop) (headed t (omega (arith, w .sized)))
+    ∙ sym (drop-drop (3 * g) (gatesFrom t) t) in
+    let behind : encodeLines (gateLines t) ++ encodeLines (map closingLine (map reference (closingLines t))) ≡ drop (3 * s) (drop 3 t) =
+    ap₂ _++_ lines closings ∙ take-append-drop (3 * g) (drop (gatesFrom t) t) ∙ sym (drop-drop (3 * s) 3 t) in
+    let all : encodeLines (map startLine (decode t .starts)) ++ (encodeLines (gateLines t) ++ encodeLines (map closingLine (map reference (closingLines t)))) ≡ drop 3 t =
+    ap₂ _++_ (encode-starts t) behind ∙ take-append-drop (3 * s) (drop 3 t) in
+    rw (gates-length t, outputs-length t, all) (headed t (omega (arith, w .sized)))

@@ -1,16 +1,17 @@
 -- Buffers that a table was put over the front of, read up to its end, or with what lies beyond. Assumes nothing.
 use mathlib.Core.Path.{_≡_, sym, ap, ap₂, _∙_}
-use mathlib.Core.List.{List, _++_, map, append-assoc}
-use Prim.Native.Nat.{ℕ, _*_, _≤_}
+use mathlib.Core.List.{List}
+use Prim.Native.Nat.{ℕ, _≤_}
 use native.Mathlib.Omega.{arith}
-use lib.ListN.{length, take, drop, length-append, length-map}
-use lib.Seq.{drop-drop, drop-at, take-append-seam, length-take-le}
+use lib.ListN.{length, take, drop, length-append}
+use lib.Seq.{take-append-seam, length-take-le}
 use Rattle.lines.specs.Calls.{over}
-use Rattle.circuit.specs.Circuit.{Circuit}
+use Rattle.circuit.specs.Circuit.{Circuit, firstGate}
 use Rattle.circuit.specs.Refusal.{KnownKinds}
-use Rattle.circuit.specs.Table.{linesOf, gateLines, closingLines, reference, closingLine, decode, encodeLines, encode}
+use Rattle.circuit.specs.Table.{decode, encode}
 use Rattle.circuit.specs.Trim.{trim, trimOf}
-use Rattle.circuit.proofs.EncodingLaws.{encode-length, lines-encode, encode-gate-lines, encode-closing-lines, decode-after-encode}
+use Rattle.circuit.proofs.StartRunLaws.{run-ends}
+use Rattle.circuit.proofs.EncodingLaws.{decode-before, decode-after-encode}
 
 -- ---- d is a buffer that xs was put over the front of, and n is where it ends
 
@@ -26,25 +27,12 @@ module _ (xs old d : List ℕ) (e : d ≡ over xs old) (n : ℕ) (h : n ≡ leng
 
 -- ---- a table with something behind it, read with what lies beyond
 
-module _ (c : Circuit) (rest : List ℕ) where
-  decode-before : KnownKinds c → decode (encode c ++ rest) ≡ c
-  unfolding encode
-  decode-before k =
-      let gs = encodeLines (c .gates) in
-      let os = encodeLines (map closingLine (c .outputs)) in
-      let joined : (gs ++ os) ++ rest ≡ gs ++ (os ++ rest) = append-assoc gs os rest in
-      let gates : gateLines (encode c ++ rest) ≡ c .gates = ap (linesOf (length (c .gates))) joined ∙ lines-encode (c .gates) (os ++ rest) in
-      let closings : closingLines (encode c ++ rest) ≡ map closingLine (c .outputs) =
-      ap (linesOf (length (c .outputs)))
-      (sym (drop-drop (3 * length (c .gates)) 3 (encode c ++ rest)) ∙ ap (drop (3 * length (c .gates))) joined
-      ∙ drop-at gs (os ++ rest) (3 * length (c .gates)) (encode-length (c .gates)))
-      ∙ ap (λ k. linesOf k (os ++ rest)) (sym (length-map (c .outputs) closingLine)) ∙ lines-encode (map closingLine (c .outputs)) rest in
-      ap₂ (λ g o. record { inputs = c .inputs; gates = g; outputs = map reference o }) (gates ∙ sym (encode-gate-lines c)) (closings ∙ sym (encode-closing-lines c))
-      ∙ decode-after-encode c k
-
--- after it was written over a buffer's front
-pub decode-over : (c : Circuit) → KnownKinds c → (old d : List ℕ) → d ≡ over (encode c) old → decode d ≡ c
-decode-over c k old d e = ap decode e ∙ decode-before c (drop (length (encode c)) old) k
+-- after it was written over a buffer's front. Behind a table without gates and outputs its starting lines could go on, so there must be one
+-- of them: a circuit within its limits has an output.
+pub decode-over : (c : Circuit) → KnownKinds c → 1 ≤ length (c .outputs) → (old d : List ℕ) → d ≡ over (encode c) old → decode d ≡ c
+decode-over c k some old d e =
+    let rest = drop (length (encode c)) old in
+    ap decode e ∙ decode-before c rest (run-ends (firstGate (c .inputs)) (c .gates) (c .outputs) rest k (omega arith))
 
 -- the trimmed table of a circuit's table
 pub trim-encode : (c : Circuit) → KnownKinds c → trimOf (encode c) ≡ encode (trim c)

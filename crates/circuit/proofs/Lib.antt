@@ -1,11 +1,13 @@
 pub mod TableLaws
 pub mod EachLaws
 pub mod RefusalLaws
+pub mod StartRunLaws
 pub mod EncodingLaws
 pub mod FoldLaws
+pub mod PassLaws
+pub mod StartLaws
 pub mod ValidLaws
 pub mod RankLaws
-pub mod PassLaws
 pub mod ReverseDepthLaws
 pub mod PathLaws
 pub mod KeptLaws

@@ -2,7 +2,7 @@
 use mathlib.Core.Path.{_≡_, sym, ap, ap₂, _∙_}
 use mathlib.Core.Bool.{Bool, true, false, _||_}
 use mathlib.Core.List.{List, [], _∷_, _++_, map}
-use Prim.Native.Nat.{ℕ, _+_, _≤_, _<_, max}
+use Prim.Native.Nat.{ℕ, _+_, _*_, _≤_, _<_, max}
 use native.Mathlib.Omega.{arith}
 use lib.Dec.{ltb}
 use lib.ListN.{length, take, drop, getD, length-map, drop-of-length-le}
@@ -10,13 +10,13 @@ use lib.Seq.{getD-take}
 use borrow.Author.Tests.{le-ltb}
 use Rattle.lists.proofs.Maps.{take-read}
 use Rattle.circuit.specs.Circuit.{Gate, closingKind, firstGate}
-use Rattle.circuit.specs.Table.{inputs, gates, outputs, refs, closingLine, decode, encodeLines, encode}
+use Rattle.circuit.specs.Table.{inputs, gates, outputs, refs, starts, closingLine, decode, encodeLines, encode}
 use Rattle.circuit.specs.Fold.{gateValue}
 use Rattle.circuit.specs.Depth.{largest}
 use Rattle.circuit.specs.ReverseDepth.{reverseDepths, isLive}
 use Rattle.circuit.specs.Trim.{renameGate, rank, keepGates, isKept, trimmedGates, trimmedOutputs, trim, trimOf}
 use Rattle.circuit.proofs.TableLaws.{outputs-length}
-use Rattle.circuit.proofs.EncodingLaws.{encode-cons}
+use Rattle.circuit.proofs.EncodingLaws.{encode-cons, encode-starts}
 use Rattle.circuit.proofs.RankLaws.{keep-kept, keep-gone, keep-end}
 
 -- a gate's value from an array whose first k places are known
@@ -52,13 +52,13 @@ module _ (f : ℕ → ℕ) (os : List ℕ) where
 
 -- ---- the trimmed table, line by line
 
--- the head, then what is appended to it
+-- the head, the starting lines of the table that is trimmed, then what is appended to them
 pub trim-lines : (t : List ℕ)
     → trimOf t ≡ inputs t ∷ length (trimmedGates (decode t)) ∷ outputs t
-    ∷ (encodeLines (trimmedGates (decode t))
-    ++ encodeLines (map closingLine (trimmedOutputs (decode t))))
+    ∷ (take (3 * starts t) (drop 3 t) ++ (encodeLines (trimmedGates (decode t))
+    ++ encodeLines (map closingLine (trimmedOutputs (decode t)))))
 unfolding encode trim
-trim-lines t = rw (length-map (decode t .outputs) (rank (isKept (decode t))), outputs-length t)
+trim-lines t = rw (length-map (decode t .outputs) (rank (isKept (decode t))), outputs-length t, encode-starts t)
 
 module _ (kept : ℕ → Bool) (n : ℕ) (gs : List Gate) (i : ℕ) (g : Gate) (e : drop i gs ≡ g ∷ drop (i + 1) gs) where
   pub append-kept : kept (n + i) ≡ true

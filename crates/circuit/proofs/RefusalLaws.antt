@@ -14,7 +14,7 @@ use Rattle.lines.specs.Text.{isPartial}
 use Rattle.lines.proofs.CallLaws.{whole-is}
 use Rattle.circuit.specs.Circuit.{xorKind, andKind, maxInputs, maxGates, maxOutputs, firstGate, noGate}
 use Rattle.circuit.specs.Table.{inputs, gates, outputs, refs, closingsFrom, tableEnd, gateLines, closingLines, decode}
-use Rattle.circuit.specs.Refusal.{headInLimits, linesAsHeadSays, gateKindsOk, closingKindsOk, operandsBelow, referenceBelow, operandsOk, closingReferencesOk, refusal}
+use Rattle.circuit.specs.Refusal.{headInLimits, linesAsHeadSays, startsOk, gateKindsOk, closingKindsOk, operandsBelow, referenceBelow, operandsOk, closingReferencesOk, refusal}
 use Rattle.circuit.specs.WellFormed.{Sized, WellFormed}
 use Rattle.circuit.specs.Theorems.{AcceptedIsWellFormed}
 use Rattle.circuit.proofs.TableLaws.{closing-step, output-at, gate-next}
@@ -34,21 +34,24 @@ either k e = go (eqb k xorKind) refl
 
 module _ (t : List ℕ) where
   -- what the tests 4 and 5 leave
-  pub sized-of : headInLimits t ≡ true → linesAsHeadSays t ≡ true → Sized t
-  sized-of h k =
+  pub head-limits : headInLimits t ≡ true → (inputs t ≤ maxInputs) × (gates t ≤ maxGates) × (1 ≤ outputs t) × (outputs t ≤ maxOutputs)
+  head-limits h =
       let a = leb (inputs t) maxInputs in
       let b = leb (gates t) maxGates in
       let c = leb 1 (outputs t) in
       let d = leb (outputs t) maxOutputs in
       let h1 = right-of a (b && (c && d)) h in
-      let h2 = right-of b (c && d) h1 in
-      record {
-        inputs-limit = leb-true _ _ (left-of a (b && (c && d)) h);
-        gates-limit = leb-true _ _ (left-of b (c && d) h1);
-        outputs-some = leb-true _ _ (left-of c d h2);
-        outputs-limit = leb-true _ _ (right-of c d h2);
-        long = eqb-true _ _ k;
-      }
+      let h2 = right-of b (c && d) h1 in (
+        leb-true _ _ (left-of a (b && (c && d)) h),
+        leb-true _ _ (left-of b (c && d) h1),
+        leb-true _ _ (left-of c d h2),
+        leb-true _ _ (right-of c d h2),
+      )
+
+  pub sized-of : headInLimits t ≡ true → linesAsHeadSays t ≡ true → Sized t
+  sized-of h k =
+      let l = head-limits h in
+      record { inputs-limit = l .0; gates-limit = l .1; outputs-some = l .2; outputs-limit = l .3; long = eqb-true _ _ k }
 
   pub head-sized : Sized t → headInLimits t ≡ true
   head-sized s =
@@ -70,12 +73,14 @@ module _ (t : List ℕ) where
       let a = passed (isPartial 3 t) 0 _ h in
       let b = passed (not (headInLimits t)) 3 _ (a .1) in
       let c = passed (not (linesAsHeadSays t)) 4 _ (b .1) in
-      let d = passed (not (gateKindsOk t && closingKindsOk t)) 5 _ (c .1) in
+      let s = passed (not (startsOk t)) 10 _ (c .1) in
+      let d = passed (not (gateKindsOk t && closingKindsOk t)) 5 _ (s .1) in
       let e = passed (not (operandsOk t && closingReferencesOk t)) 6 _ (d .1) in
       let kinds = not-false (gateKindsOk t && closingKindsOk t) (d .0) in
       let references = not-false (operandsOk t && closingReferencesOk t) (e .0) in
       record {
         sized = sized-of (not-false (headInLimits t) (b .0)) (not-false (linesAsHeadSays t) (c .0));
+        starts-right = not-false (startsOk t) (s .0);
         gate-kinds = left-of (gateKindsOk t) (closingKindsOk t) kinds;
         closing-kinds = right-of (gateKindsOk t) (closingKindsOk t) kinds;
         operands = left-of (operandsOk t) (closingReferencesOk t) references;
@@ -86,7 +91,7 @@ module _ (t : List ℕ) where
   unfolding refusal
   well-formed-accepted w =
       let e : linesAsHeadSays t ≡ true = eq-eqb (length t) (tableEnd t) (w .sized .long) in
-      rw (whole (w .sized), head-sized (w .sized), e, w .gate-kinds, w .closing-kinds, w .operands, w .closing-references)
+      rw (whole (w .sized), head-sized (w .sized), e, w .starts-right, w .gate-kinds, w .closing-kinds, w .operands, w .closing-references)
 
   -- ---- the refusal, test by test
 
@@ -109,18 +114,23 @@ module _ (t : List ℕ) where
       refusal-lines e = rw (w, h, e)
 
       module _ (l : linesAsHeadSays t ≡ true) where
-        pub refusal-kinds : gateKindsOk t && closingKindsOk t ≡ false → 6 ≡ refusal t
+        pub refusal-starts : startsOk t ≡ false → 11 ≡ refusal t
         unfolding refusal
-        refusal-kinds e = rw (w, h, l, e)
+        refusal-starts e = rw (w, h, l, e)
 
-        module _ (k : gateKindsOk t && closingKindsOk t ≡ true) where
-          pub refusal-references : operandsOk t && closingReferencesOk t ≡ false → 7 ≡ refusal t
+        module _ (s : startsOk t ≡ true) where
+          pub refusal-kinds : gateKindsOk t && closingKindsOk t ≡ false → 6 ≡ refusal t
           unfolding refusal
-          refusal-references e = rw (w, h, l, k, e)
+          refusal-kinds e = rw (w, h, l, s, e)
 
-          pub refusal-none : operandsOk t && closingReferencesOk t ≡ true → 0 ≡ refusal t
-          unfolding refusal
-          refusal-none e = rw (w, h, l, k, e)
+          module _ (k : gateKindsOk t && closingKindsOk t ≡ true) where
+            pub refusal-references : operandsOk t && closingReferencesOk t ≡ false → 7 ≡ refusal t
+            unfolding refusal
+            refusal-references e = rw (w, h, l, s, k, e)
+
+            pub refusal-none : operandsOk t && closingReferencesOk t ≡ true → 0 ≡ refusal t
+            unfolding refusal
+            refusal-none e = rw (w, h, l, s, k, e)
 
   -- ---- each gate and output of the circuit, wherever its line stands
 

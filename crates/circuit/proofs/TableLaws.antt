@@ -1,15 +1,22 @@
 -- Lines of a table, and the gates and outputs that they say: what loops over them, and readers of them, need. Assumes nothing.
 use mathlib.Core.Path.{_≡_, refl, sym, ap, ap₂, _∙_}
-use mathlib.Core.List.{List, _∷_}
-use Prim.Native.Nat.{ℕ, zero, suc, _+_, _*_, _<_}
+use mathlib.Core.List.{List, [], _∷_, map}
+use Prim.Native.Nat.{ℕ, zero, suc, _+_, _*_, _≤_, _<_}
 use native.Mathlib.Nat.{add-zero, not-suc-le-zero, le-of-suc-le-suc}
 use native.Mathlib.Numerals.{add-one}
 use native.Mathlib.Omega.{arith}
 use lib.ListN.{length, drop, getD, length-map}
 use lib.Seq.{getD-drop, drop-cons}
-use Rattle.lists.proofs.Maps.{map-step}
+use Rattle.lists.proofs.Maps.{map-drop, map-step}
 use Rattle.circuit.specs.Circuit.{references, noGate}
-use Rattle.circuit.specs.Table.{gates, outputs, refs, gatesFrom, closingsFrom, lineAt, linesOf, gateLines, closingLines, reference, decode}
+use Rattle.circuit.specs.Table.{gates, outputs, refs, starts, gatesFrom, closingsFrom, lineAt, linesOf, startLines, gateLines, closingLines, startOf, reference, decode}
+
+-- a table of at least one line, by its head and the rest
+pub headed : (t : List ℕ) → 3 ≤ length t → getD t 0 0 ∷ getD t 1 0 ∷ getD t 2 0 ∷ drop 3 t ≡ t
+headed [] h = absurd (not-suc-le-zero h)
+headed (a ∷ []) h = let z : ⊥ = omega arith in absurd z
+headed (a ∷ b ∷ []) h = let z : ⊥ = omega arith in absurd z
+headed (a ∷ b ∷ c ∷ t) h = refl
 
 pub line-drop : (k p : ℕ) (t : List ℕ) → lineAt (drop k t) p ≡ lineAt t (k + p)
 line-drop k p t =
@@ -35,6 +42,9 @@ pub step-from : (p n : ℕ) (t : List ℕ) (i : ℕ) → i < n → drop i (lines
 step-from p n t i h = line-step n (drop p t) i h ∙ ap₂ _∷_ (line-drop p (3 * i) t) (rw add-one)
 
 module _ (t : List ℕ) where
+  pub starts-length : length (decode t .starts) ≡ starts t
+  starts-length = length-map (startLines t) startOf ∙ lines-length (starts t) (drop 3 t)
+
   pub gates-length : length (gateLines t) ≡ gates t
   gates-length = lines-length (gates t) (drop (gatesFrom t) t)
 
@@ -54,6 +64,11 @@ module _ (t : List ℕ) where
 
     pub closing-step : (p : ℕ) → p ≡ closingsFrom t → i < outputs t → drop i (closingLines t) ≡ lineAt t (p + 3 * i) ∷ drop (i + 1) (closingLines t)
     closing-step p e h = rw e (step-from (closingsFrom t) (outputs t) t i h)
+
+    pub start-step : i < starts t → drop i (decode t .starts) ≡ startOf (lineAt t (3 + 3 * i)) ∷ drop (i + 1) (decode t .starts)
+    start-step h =
+        map-drop startOf i (startLines t) ∙ ap (map startOf) (step-from 3 (starts t) t i h)
+        ∙ ap (λ l. startOf (lineAt t (3 + 3 * i)) ∷ l) (sym (map-drop startOf (i + 1) (startLines t)))
 
     -- gate i and output i of the circuit, by the places that code reads
     pub gate-at : (p : ℕ) → p ≡ gatesFrom t → i < gates t → getD (decode t .gates) i noGate ≡ lineAt t (p + 3 * i)

@@ -6,7 +6,7 @@ use Prim.Native.Nat.{ℕ, _+_, _-_, _<_}
 use native.Mathlib.Decide.{decLt}
 use native.Mathlib.Omega.{arith}
 use lib.Dec.{eqb, ltb}
-use lib.ListN.{length, getD, length-replicate, length-map}
+use lib.ListN.{length, getD, length-map}
 use borrow.Author.Tests.{eqb-true}
 use Rattle.lists.specs.First.{first}
 use Rattle.circuit.specs.Circuit.{Gate, Circuit, noGate, andKind, firstGate, references}
@@ -14,12 +14,13 @@ use Rattle.circuit.specs.Each.{countGates, EachGate}
 use Rattle.circuit.specs.Refusal.{hasGateKind}
 use Rattle.circuit.specs.Fold.{foldGates, atOutputs}
 use Rattle.circuit.specs.Evaluation.{bitOp, bitOf, startBits, bits, evaluate}
-use Rattle.circuit.specs.Depth.{depthOp, startDepths, depths, depth, largest, circuitDepth}
+use Rattle.circuit.specs.Depth.{depthOp, startLevels, depths, depth, largest, circuitDepth}
 use Rattle.circuit.specs.Path.{isAmong}
 use Rattle.circuit.specs.ReverseDepth.{reverseDepth, isLive}
 use Rattle.circuit.specs.Critical.{isCritical, criticalCount}
 use Rattle.circuit.specs.Trim.{renameGate, rank, keepGates, isKept, trim}
 use Rattle.circuit.proofs.EachLaws.{each-at, each-of, each-map}
+use Rattle.circuit.proofs.StartLaws.{start-length}
 use Rattle.circuit.proofs.ValidLaws.{Valid, Limited, among-head, among-tail}
 use Rattle.circuit.proofs.RankLaws.{rank-id, rank-lt, rank-eqb, keep-count, keep-length, each-keep, count-keep, keep-ordered, keep-value, keep-all}
 use Rattle.circuit.proofs.ReverseDepthLaws.{raised, marked, reverse-at, keep-raised, kept-low, kept-live, kept-gate, gone-zero, live-output, kept-closed}
@@ -71,6 +72,7 @@ module _ (c : Circuit) (ok : Valid c) where
   trim-valid =
       let n = firstGate (c .inputs) in
       record {
+        starts-right = ok .starts-right;
         ordered = rw rank-first at (keep-ordered (isKept c) n (c .gates) (ok .ordered) (kept-closed c ok));
         kinds = rw rank-first at (each-keep (isKept c) (λ m g. hasGateKind m g ≡ true) n (c .gates) (each-map n (c .gates) (ok .kinds) (λ m g h k e. k)));
         outputs-below = among-map (λ o. o < references (trim c)) (rank (isKept c)) (c .outputs)
@@ -107,16 +109,13 @@ module _ (c : Circuit) (ok : Valid c) where
   unfolding evaluate bits
   trim-evaluate bytes e = trim-outputs bitOp 0 (startBits bytes) (omega (arith, length-map bytes bitOf))
 
-  start-length : length (startDepths (c .inputs)) ≡ firstGate (c .inputs)
-  start-length = length-replicate {A = ℕ} (firstGate (c .inputs)) 0
-
   pub trim-depth : (v : ℕ) → v < references c → isKept c v ≡ true → depth (trim c) (rank (isKept c) v) ≡ depth c v
-  unfolding depths trim
-  trim-depth = trim-value depthOp 0 (startDepths (c .inputs)) start-length
+  unfolding depths startLevels trim
+  trim-depth = trim-value depthOp 0 (startLevels c) (start-length c)
 
   pub trim-circuit-depth : circuitDepth (trim c) ≡ circuitDepth c
-  unfolding circuitDepth depths trim
-  trim-circuit-depth = ap largest (trim-outputs depthOp 0 (startDepths (c .inputs)) start-length)
+  unfolding circuitDepth depths startLevels trim
+  trim-circuit-depth = ap largest (trim-outputs depthOp 0 (startLevels c) (start-length c))
 
   pub trim-reverse-depth : (v : ℕ) → isKept c v ≡ true → reverseDepth (trim c) (rank (isKept c) v) ≡ reverseDepth c v
   unfolding trim marked
@@ -156,7 +155,7 @@ module _ (c : Circuit) (ok : Valid c) where
   pub trim-same : EachGate (λ m g. isLive c m ≡ true) (firstGate (c .inputs)) (c .gates) → trim c ≡ c
   unfolding trim
   trim-same a =
-      ap₂ (λ g o. record { inputs = c .inputs; gates = g; outputs = o })
+      ap₂ (λ g o. record { inputs = c .inputs; starts = c .starts; gates = g; outputs = o })
       (keep-all (isKept c) (firstGate (c .inputs)) (c .gates) (ok .ordered) (kept-low c) keeps)
       (map-same (rank (isKept c)) (c .outputs) (λ o e. rank-id (isKept c) o (λ r l. all r (omega (arith, ok .outputs-below o e)))))
     where

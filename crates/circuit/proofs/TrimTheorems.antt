@@ -12,7 +12,7 @@ use Rattle.lines.specs.Refusal.{gives, noTable}
 use Rattle.lines.specs.Checks.{answering, afterwards}
 use Rattle.lines.specs.Calls.{over}
 use Rattle.lines.proofs.CheckLaws.{check-passed, outcome-same}
-use Rattle.circuit.specs.Circuit.{firstGate, references, gateAt}
+use Rattle.circuit.specs.Circuit.{Circuit, firstGate, references, gateAt}
 use Rattle.circuit.specs.Table.{inputs, outputs, gateLines, decode, encode}
 use Rattle.circuit.specs.WellFormed.{WellFormed}
 use Rattle.circuit.specs.Evaluation.{evaluate}
@@ -21,7 +21,7 @@ use Rattle.circuit.specs.ReverseDepth.{isLive, above}
 use Rattle.circuit.specs.Critical.{criticalCount}
 use Rattle.circuit.specs.Trim.{rank, isKept, trim, trimOf}
 use Rattle.circuit.specs.EvaluateCall.{evaluateChecks, evaluating}
-use Rattle.circuit.specs.Theorems.{TrimmedIsWellFormed, TrimKeepsCounts, TrimKeepsGates, TrimKeepsOutputs, TrimKeepsDepth, TrimKeepsCriticalCount, TrimKeepsDepths, TrimmedIsLive, TrimOfTrim, TrimKeepsCalls}
+use Rattle.circuit.specs.Theorems.{TrimmedIsWellFormed, TrimKeepsCounts, TrimKeepsStarts, TrimKeepsGates, TrimKeepsOutputs, TrimKeepsDepth, TrimKeepsCriticalCount, TrimKeepsDepths, TrimmedIsLive, TrimOfTrim, TrimKeepsCalls}
 use Rattle.circuit.proofs.TableLaws.{gates-length, outputs-length, refs-decode}
 use Rattle.circuit.proofs.EachLaws.{each-at}
 use Rattle.circuit.proofs.RefusalLaws.{whole, well-formed-accepted}
@@ -49,6 +49,10 @@ trim-keeps-counts t w =
       encode-outputs (trim c) ∙ length-map (c .outputs) (rank (isKept c)) ∙ outputs-length t,
       omega (arith, encode-gates (trim c), keep-length (isKept c) (firstGate (inputs t)) (gateLines t), gates-length t),
     )
+
+pub trim-keeps-starts : TrimKeepsStarts
+unfolding trim
+trim-keeps-starts t w = ap (λ (c : Circuit). c .starts) (decode-trim t w)
 
 pub trim-keeps-gates : TrimKeepsGates
 unfolding trim

@@ -1,25 +1,27 @@
 -- The loops that renumber references and write the trimmed table. Assumes nothing.
 use mathlib.Core.Path.{_≡_, refl, sym, ap, ap₂, _∙_}
 use mathlib.Core.List.{List, [], _∷_, _++_, map}
-use Prim.Native.Nat.{ℕ, suc, _+_, _*_, _≤_, _<_}
-use native.Mathlib.Nat.{add-zero, not-suc-le-zero, le-of-suc-le-suc}
+use Prim.Native.Nat.{ℕ, _+_, _*_, _≤_, _<_}
+use native.Mathlib.Nat.{add-zero, not-suc-le-zero}
 use native.Mathlib.Decide.{ℕ-discrete}
 use native.Mathlib.Omega.{arith}
 use lib.Dec.{ltb}
 use lib.ListN.{length, take, drop, getD, set, length-set, length-append, length-map}
-use lib.Seq.{sets, getD-set-same, getD-set-other}
+use lib.Seq.{sets, getD-set-same, getD-set-other, length-take-le}
 use borrow.Author.Tests.{lt-ltb, le-ltb}
-use Rattle.lists.proofs.Stores.{sets-append, sets-behind}
+use Rattle.lists.proofs.Stores.{sets-append}
 use Rattle.lists.proofs.Appended.{Appended, appended-none, appended-more, appended-same, appended-all}
 use Rattle.lines.specs.Calls.{over}
 use Rattle.circuit.specs.Circuit.{Gate, closingKind, firstGate, noGate}
-use Rattle.circuit.specs.Table.{inputs, gates, outputs, refs, gatesFrom, tableEnd, gateLines, closingLine, decode, encodeLines}
+use Rattle.circuit.specs.Table.{inputs, gates, outputs, refs, starts, gatesFrom, tableEnd, gateLines, closingLine, decode, encodeLines}
 use Rattle.circuit.specs.WellFormed.{WellFormed}
 use Rattle.circuit.specs.ReverseDepth.{reverseDepths}
 use Rattle.circuit.specs.Trim.{rank, keepGates, isKept, newNumber, renumberedGate, trimmedGates, trimmedOutputs, trimOf}
 use Rattle.circuit.proofs.TableLaws.{gate-next, gates-length, output-next, outputs-length}
 use Rattle.circuit.proofs.RefusalLaws.{left-below, right-below, output-below}
+use Rattle.circuit.proofs.StartRunLaws.{run-fits}
 use Rattle.circuit.proofs.EncodingLaws.{encode-length}
+use Rattle.circuit.proofs.BufferLaws.{copied-headed}
 use Rattle.circuit.proofs.RankLaws.{rank-kept, rank-gone, rank-id, keep-length}
 use Rattle.circuit.proofs.ReverseDepthLaws.{kept-low}
 use Rattle.circuit.proofs.LoopLaws.{kept-read, trim-lines, append-kept, append-gone, append-gates-end, append-closing, append-closings-end}
@@ -154,17 +156,9 @@ module _ (t d₀ : List ℕ) (from : ℕ) where
 
 -- ---- the whole table
 
--- the head, stored when what is behind it stands there already
-head-last : (a b c : ℕ) (vs d : List ℕ) → 3 ≤ length d → sets (sets d 3 vs) 0 (a ∷ b ∷ c ∷ []) ≡ sets d 0 (a ∷ b ∷ c ∷ vs)
-head-last a b c vs [] h = absurd (not-suc-le-zero h)
-head-last a b c vs (x ∷ []) h = absurd (not-suc-le-zero (le-of-suc-le-suc h))
-head-last a b c vs (x ∷ y ∷ []) h = absurd (not-suc-le-zero (le-of-suc-le-suc (le-of-suc-le-suc h)))
-head-last a b c vs (x ∷ y ∷ z ∷ d) h =
-    ap (λ l. sets l 0 (a ∷ b ∷ c ∷ [])) (deep vs x y z d 0) ∙ sym (deep vs a b c d 0)
-  where
-    deep : (vs : List ℕ) (x y z : ℕ) (d : List ℕ) (i : ℕ) → sets (x ∷ y ∷ z ∷ d) (suc (suc (suc i))) vs ≡ x ∷ y ∷ z ∷ sets d i vs
-    deep [] x y z d i = refl
-    deep (v ∷ vs) x y z d i = deep vs x y z (set d i v) (suc i)
+-- the starting lines are all there
+starts-taken : (t : List ℕ) → length (take (3 * starts t) (drop 3 t)) ≡ 3 * starts t
+starts-taken t = length-take-le (3 * starts t) (drop 3 t) (run-fits (drop 3 t))
 
 module _ (t : List ℕ) (from kept : ℕ) (q : from ≡ gatesFrom t) (k : kept ≡ length (trimmedGates (decode t))) where
   -- where the closing lines of the trimmed table begin, there is room for them
@@ -179,6 +173,8 @@ module _ (t : List ℕ) (from kept : ℕ) (q : from ≡ gatesFrom t) (k : kept �
       omega (
         arith,
         ap length (trim-lines t),
+        length-append (take (3 * starts t) (drop 3 t)) (encodeLines gs ++ encodeLines os),
+        starts-taken t,
         length-append (encodeLines gs) (encodeLines os),
         encode-length gs,
         encode-length os,
@@ -187,17 +183,19 @@ module _ (t : List ℕ) (from kept : ℕ) (q : from ≡ gatesFrom t) (k : kept �
         outputs-length t,
       )
 
-  pub trim-stores : (d d1 d2 d3 : List ℕ) → tableEnd t ≤ length d
-      → d1 ≡ sets d (gatesFrom t) (encodeLines (trimmedGates (decode t)))
-      → d2 ≡ sets d1 (from + 3 * kept) (encodeLines (map closingLine (trimmedOutputs (decode t))))
-      → d3 ≡ sets d2 0 (inputs t ∷ kept ∷ outputs t ∷ []) → d3 ≡ over (trimOf t) d
-  trim-stores d d1 d2 d3 h e1 e2 e3 =
+  pub trim-stores : WellFormed t → (d d1 d2 d3 d4 : List ℕ) → tableEnd t ≤ length d
+      → d1 ≡ over (take from t) d
+      → d2 ≡ sets d1 (gatesFrom t) (encodeLines (trimmedGates (decode t)))
+      → d3 ≡ sets d2 (from + 3 * kept) (encodeLines (map closingLine (trimmedOutputs (decode t))))
+      → d4 ≡ sets d3 0 (inputs t ∷ kept ∷ outputs t ∷ []) → d4 ≡ over (trimOf t) d
+  trim-stores w d d1 d2 d3 d4 h e1 e2 e3 e4 =
       let gs = encodeLines (trimmedGates (decode t)) in
       let os = encodeLines (map closingLine (trimmedOutputs (decode t))) in
       let long : length gs ≡ 3 * kept = omega (arith, encode-length (trimmedGates (decode t))) in
-      e3
-      ∙ ap (λ x. sets x 0 (inputs t ∷ kept ∷ outputs t ∷ []))
-      (e2 ∙ ap₂ (λ x m. sets x (m + 3 * kept) os) e1 q ∙ sets-append gs os d (gatesFrom t) (3 * kept) long)
-      ∙ head-last (inputs t) kept (outputs t) (gs ++ os) d (omega arith)
-      ∙ ap (λ n. sets d 0 (inputs t ∷ n ∷ outputs t ∷ (gs ++ os))) k ∙ ap (sets d 0) (sym (trim-lines t))
-      ∙ sets-behind [] (trimOf t) d 0 refl (omega (arith, trim-end, closings-room (tableEnd t) (omega arith)))
+      let both : d3 ≡ sets d1 from (gs ++ os) =
+      e3 ∙ ap (λ x. sets x (from + 3 * kept) os) (e2 ∙ ap (λ m. sets d1 m gs) (sym q)) ∙ sets-append gs os d1 from (3 * kept) long in
+      let lines : length (trimOf t) ≡ 3 + 3 * starts t + length (gs ++ os) =
+      omega (arith, ap length (trim-lines t), length-append (take (3 * starts t) (drop 3 t)) (gs ++ os), starts-taken t) in
+      copied-headed t d from (3 * starts t) q (omega (arith, w .sized .long)) (gs ++ os)
+      (omega (arith, lines, trim-end, closings-room (tableEnd t) (omega arith))) d1 d3 d4 (inputs t) kept (outputs t) e1 both e4
+      ∙ ap (λ n. over (inputs t ∷ n ∷ outputs t ∷ (take (3 * starts t) (drop 3 t) ++ (gs ++ os))) d) k ∙ ap (λ l. over l d) (sym (trim-lines t))

@@ -1,5 +1,5 @@
 -- Well-formed tables are those of valid circuits within the limits. Assumes nothing.
-use mathlib.Core.Path.{_≡_, refl, sym}
+use mathlib.Core.Path.{_≡_, refl, sym, ap, _∙_}
 use mathlib.Core.Bool.{Bool, true, false, true≢false, or-true}
 use mathlib.Core.List.{List, [], _∷_, map}
 use mathlib.Core.Logic.{⊎-elim}
@@ -12,7 +12,7 @@ use Rattle.lists.proofs.Tests.{both, left-of, right-of}
 use Rattle.circuit.specs.Circuit.{Gate, Circuit, maxInputs, maxGates, maxOutputs, firstGate, references}
 use Rattle.circuit.specs.Table.{refs, gateLines, closingLines, reference, closingLine, decode, encode}
 use Rattle.circuit.specs.Each.{EachGate}
-use Rattle.circuit.specs.Refusal.{hasGateKind, KnownKinds, isClosing, operandsBelow, referenceBelow}
+use Rattle.circuit.specs.Refusal.{startsRight, hasGateKind, KnownKinds, isClosing, operandsBelow, referenceBelow}
 use Rattle.circuit.specs.WellFormed.{Sized, WellFormed}
 use Rattle.circuit.specs.Valuation.{Ordered}
 use Rattle.circuit.specs.Path.{isAmong}
@@ -20,10 +20,12 @@ use Rattle.circuit.specs.Theorems.{WellFormedIsCircuit, CircuitIsAccepte
 use Rattle.circuit.proofs.TableLaws.{gates-length, outputs-length, refs-decode}
 use Rattle.circuit.proofs.EachLaws.{all-each, each-all, each-map}
 use Rattle.circuit.proofs.RefusalLaws.{either, well-formed-accepted}
-use Rattle.circuit.proofs.EncodingLaws.{encode-gate-lines, encode-closing-lines, encode-long}
+use Rattle.circuit.proofs.EncodingLaws.{encode-gate-lines, encode-closing-lines, encode-long, decode-encode}
+use Rattle.circuit.proofs.StartLaws.{starts-are-right}
 
--- a circuit whose gates and outputs are as refusals 6 and 7 want them
+-- a circuit whose starting lines, gates and outputs are as refusals 11, 6 and 7 want them
 pub record Valid (c : Circuit) : Type 0 where
+  pub starts-right : startsRight c ≡ true
   pub ordered : Ordered (firstGate (c .inputs)) (c .gates)
   pub kinds : KnownKinds c
   pub outputs-below : (o : ℕ) → isAmong o (c .outputs) ≡ true → o < references c
@@ -76,6 +78,7 @@ of-below top n (o ∷ os) h = ((refl, lt-ltb o top (h o (among-head o os))), of-
 pub valid-decode : (t : List ℕ) → WellFormed t → Valid (decode t)
 valid-decode t w =
     record {
+      starts-right = w .starts-right;
       ordered = ordered-of _ (gateLines t) (all-each operandsBelow _ (gateLines t) (w .operands));
       kinds = all-each hasGateKind _ (gateLines t) (w .gate-kinds);
       outputs-below = λ o e. rw (refs-decode t) (below-of (refs t) 0 (closingLines t) (all-each (referenceBelow (refs t)) 0 (closingLines t) (w .closing-references)) o e);
@@ -83,8 +86,12 @@ valid-decode t w =
 
 pub well-formed-is-circuit : WellFormedIsCircuit
 well-formed-is-circuit t w =
-    let v = valid-decode t w in
-    (v .ordered, each-map _ (gateLines t) (v .kinds) (λ m g h e. either (g .kind) e), λ o e. rw (← refs-decode t) (v .outputs-below o e))
+    let v = valid-decode t w in (
+      v .ordered,
+      each-map _ (gateLines t) (v .kinds) (λ m g h e. either (g .kind) e),
+      λ o e. rw (← refs-decode t) (v .outputs-below o e),
+      starts-are-right (decode t) .0 (v .starts-right),
+    )
 
 pub limited-decode : (t : List ℕ) → Sized t → Limited (decode t)
 limited-decode t s =
@@ -100,24 +107,26 @@ unfolding encode
 well-formed-encode c ok l =
     let n = firstGate (c .inputs) in
     let closings = of-below (references c) 0 (c .outputs) (ok .outputs-below) in
+    let k = ok .kinds in
     record {
       sized = record {
         inputs-limit = l .inputs-limit;
         gates-limit = l .gates-limit;
         outputs-some = l .outputs-some;
         outputs-limit = l .outputs-limit;
-        long = encode-long c;
+        long = encode-long c k;
       };
-      gate-kinds = rw (encode-gate-lines c) (each-all hasGateKind n (c .gates) (ok .kinds));
-      closing-kinds = rw (encode-closing-lines c) (each-all isClosing 0 (map closingLine (c .outputs)) (each-map 0 (map closingLine (c .outputs)) closings (λ m g h x. x .0)));
-      operands = rw (encode-gate-lines c) (each-all operandsBelow n (c .gates) (of-ordered n (c .gates) (ok .ordered)));
-      closing-references = rw (encode-closing-lines c) (each-all (referenceBelow (references c)) 0 (map closingLine (c .outputs)) (each-map 0 (map closingLine (c .outputs)) closings (λ m g h x. x .1)));
+      starts-right = ap startsRight (decode-encode c k) ∙ ok .starts-right;
+      gate-kinds = rw (encode-gate-lines c k) (each-all hasGateKind n (c .gates) (ok .kinds));
+      closing-kinds = rw (encode-closing-lines c k) (each-all isClosing 0 (map closingLine (c .outputs)) (each-map 0 (map closingLine (c .outputs)) closings (λ m g h x. x .0)));
+      operands = rw (encode-gate-lines c k) (each-all operandsBelow n (c .gates) (of-ordered n (c .gates) (ok .ordered)));
+      closing-references = rw (encode-closing-lines c k) (each-all (referenceBelow (references c)) 0 (map closingLine (c .outputs)) (each-map 0 (map closingLine (c .outputs)) closings (λ m g h x. x .1)));
     }
 
 pub circuit-is-accepted : CircuitIsAccepted
-circuit-is-accepted c is gs some os ordered kinds below =
+circuit-is-accepted c is gs some os ordered kinds below starts =
     let known = each-map {Q = λ m g. hasGateKind m g ≡ true} _ (c .gates) kinds (λ m g h. ⊎-elim (λ e. rw (eq-eqb _ _ e)) (λ e. rw (eq-eqb _ _ e, or-true))) in
     well-formed-accepted (encode c)
     (well-formed-encode c
-    (record { ordered = ordered; kinds = known; outputs-below = below })
+    (record { starts-right = starts-are-right c .1 starts; ordered = ordered; kinds = known; outputs-below = below })
     (record { inputs-limit = is; gates-limit = gs; outputs-some = some; outputs-limit = os }))

@@ -9,7 +9,7 @@ use Rattle.circuit.specs.Each.{countGates}
 use Rattle.circuit.specs.Depth.{isCounted, depth, circuitDepth}
 use Rattle.circuit.specs.ReverseDepth.{isLive, above}
 
--- a live AND gate on a path of the most AND gates: its depth and above make D
+-- a live AND gate on a deepest path: its depth and above make D
 abbrev pub isCritical : Circuit → ℕ → Gate → Bool
 isCritical c v g = isCounted (g .kind) && (isLive c v && eqb (depth c v + above c v) (circuitDepth c))
 

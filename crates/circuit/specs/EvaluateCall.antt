@@ -21,8 +21,8 @@ abbrev pub paperValues : Evaluated → Result
 paperValues (Outputs n) = gives (n ∷ [])
 paperValues (Refused r) = refused (r .number) (r .table)
 
--- 01, Refusals, 2: 1 for the table; 2, for fewer than 256 output bytes, whatever the head says; 4 to 7; and last 1 again, for input bytes that are not as many
--- as the inputs, where the fault lies in no table.
+-- 01, Refusals, 2, and 02, 2026-01: 1 for the table; 2, for fewer than 256 output bytes, whatever the head says; 4, 5, 11, 6, 7; and last 1 again,
+-- for input bytes that are not as many as the inputs, where the fault lies in no table.
 abbrev pub evaluateChecks : (circuit inputBytes outputBytes : List ℕ) → List Refusal
 evaluateChecks circuit inputBytes outputBytes =
     check (isPartial 3 circuit) 1 circuitTable

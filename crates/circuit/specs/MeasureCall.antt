@@ -15,7 +15,7 @@ abbrev pub paperValues : Measured → Result
 paperValues (Pair depth critical) = gives (depth ∷ critical ∷ [])
 paperValues (Refused r) = refused (r .number) (r .table)
 
--- the circuit's refusals, 1 and 4 to 7; else the pair of the circuit as read
+-- the circuit's refusals, 1 and 4, 5, 11, 6, 7; else the pair of the circuit as read
 unfoldable pub measuring : (circuit : List ℕ) → Result
 measuring circuit =
     answering (found (refusal circuit) circuitTable ∷ []) (circuitDepth (decode circuit) ∷ criticalCount (decode circuit) ∷ [])

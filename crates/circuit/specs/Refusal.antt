@@ -1,23 +1,37 @@
--- The refusals 1 and 4 to 7 of a circuit's table; 8 is of rules alone.
-use Prim.Native.Nat.{ℕ}
+-- The refusals 1, 4, 5, 11, 6 and 7 of a circuit's table; 8 is of rules alone.
+use Prim.Native.Nat.{ℕ, suc}
 use mathlib.Core.Path.{_≡_}
 use mathlib.Core.Bool.{Bool, true, not, _&&_, _||_}
-use mathlib.Core.List.{List}
+use mathlib.Core.List.{List, [], _∷_}
 use lib.Dec.{eqb, leb, ltb}
 use lib.ListN.{length}
 use Rattle.lists.specs.First.{first}
 use Rattle.lines.specs.Text.{isPartial}
-use Rattle.circuit.specs.Circuit.{Gate, Circuit, xorKind, andKind, closingKind, maxInputs, maxGates, maxOutputs, firstGate}
-use Rattle.circuit.specs.Table.{inputs, gates, outputs, refs, tableEnd, gateLines, closingLines, reference}
+use Rattle.circuit.specs.Circuit.{Gate, Start, Circuit, xorKind, andKind, closingKind, maxInputs, maxGates, maxOutputs, minLevel, maxLevel, constants, firstGate}
+use Rattle.circuit.specs.Table.{inputs, gates, outputs, refs, tableEnd, gateLines, closingLines, reference, decode}
 use Rattle.circuit.specs.Each.{allGates, EachGate}
 
 -- 01, refusal 4, does not apply: the head's numbers are within their limits.
 abbrev pub headInLimits : List ℕ → Bool
 headInLimits t = leb (inputs t) maxInputs && (leb (gates t) maxGates && (leb 1 (outputs t) && leb (outputs t) maxOutputs))
 
--- 01, refusal 5, does not apply: there are as many lines as the head says.
+-- 01, refusal 5, does not apply: there are as many lines as the head says, beside the starting lines, whatever is in them.
 abbrev pub linesAsHeadSays : List ℕ → Bool
 linesAsHeadSays t = eqb (length t) (tableEnd t)
+
+-- 02, 2026-01, refusal 11, does not apply: each starting line names an input, which is above the one before, and a level from 1 to 255.
+abbrev pub isStart : (top low : ℕ) → Start → Bool
+isStart top low s = leb low (s .input) && (ltb (s .input) top && (leb minLevel (s .level) && leb (s .level) maxLevel))
+
+unfoldable pub startsAscend : (top low : ℕ) → List Start → Bool
+startsAscend top low [] = true
+startsAscend top low (s ∷ ss) = isStart top low s && startsAscend top (suc (s .input)) ss
+
+abbrev pub startsRight : Circuit → Bool
+startsRight c = startsAscend (firstGate (c .inputs)) constants (c .starts)
+
+abbrev pub startsOk : List ℕ → Bool
+startsOk t = startsRight (decode t)
 
 -- 01, refusal 6, does not apply: each gate is of a known kind, and each closing line is 3, some reference, 0.
 abbrev pub hasGateKind : ℕ → Gate → Bool
@@ -53,12 +67,13 @@ closingReferencesOk t = allGates (referenceBelow (refs t)) 0 (closingLines t)
 abbrev pub circuitTable : ℕ
 circuitTable = 1
 
--- 01, Refusals, 2: the lowest number that applies, all 6s before any 7; 0 if none does.
+-- 01, Refusals, 2: the lowest number that applies, all 6s before any 7, and 11 right after 5 (02, 2026-01); 0 if none does.
 unfoldable pub refusal : List ℕ → ℕ
 refusal t =
     first (isPartial 3 t) 1
     (first (not (headInLimits t)) 4
     (first (not (linesAsHeadSays t)) 5
+    (first (not (startsOk t)) 11
     (first (not (gateKindsOk t && closingKindsOk t)) 6
     (first (not (operandsOk t && closingReferencesOk t)) 7
-    0))))
+    0)))))

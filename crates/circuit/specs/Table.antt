@@ -1,10 +1,12 @@
--- 01, Circuits, 1 to 3: a circuit's table, which is the head, the gate lines and the closing lines, three numbers a line.
--- What a table says is read by the head's counts, and numbers that are missing count as 0, so that every table says something;
--- tables with too few or too many lines are refused.
+-- 01, Circuits, 1 to 3, and 02, 2026-01: a circuit's table, which is the head, the starting lines, the gate lines and the closing lines,
+-- three numbers a line. Starting lines are known by their 4; the others are read by the head's counts, and numbers that are missing count as 0, so
+-- that every table says something; tables with too few or too many lines are refused.
 use Prim.Native.Nat.{ℕ, zero, suc, _+_, _*_}
 use mathlib.Core.List.{List, [], _∷_, _++_, map}
+use lib.Dec.{eqb}
 use lib.ListN.{length, drop, getD}
-use Rattle.circuit.specs.Circuit.{Gate, Circuit, closingKind, firstGate}
+use Rattle.lists.specs.First.{first}
+use Rattle.circuit.specs.Circuit.{Gate, Start, Circuit, closingKind, startKind, firstGate}
 
 -- 01, Circuits, 1: the head
 abbrev pub inputs : List ℕ → ℕ
@@ -20,9 +22,21 @@ outputs t = getD t 2 0
 abbrev pub refs : List ℕ → ℕ
 refs t = firstGate (inputs t) + gates t
 
+-- 02, 2026-01: how many lines that begin with 4 a list of numbers begins with, whatever else is in them: the longest run. Numbers that make
+-- no whole line are none.
+unfoldable pub startRun : List ℕ → ℕ
+startRun [] = 0
+startRun (k ∷ []) = 0
+startRun (k ∷ a ∷ []) = 0
+startRun (k ∷ a ∷ b ∷ rest) = first (eqb k startKind) (suc (startRun rest)) 0
+
+-- the starting lines: all those right after the head that begin with 4
+abbrev pub starts : List ℕ → ℕ
+starts t = startRun (drop 3 t)
+
 -- where the gate lines, the closing lines and the table's end are
 abbrev pub gatesFrom : List ℕ → ℕ
-gatesFrom t = 3
+gatesFrom t = 3 + 3 * starts t
 
 abbrev pub closingsFrom : List ℕ → ℕ
 closingsFrom t = gatesFrom t + 3 * gates t
@@ -38,6 +52,16 @@ lineAt t p = record { kind = getD t p 0; left = getD t (p + 1) 0; right = getD t
 unfoldable pub linesOf : (n : ℕ) → List ℕ → List Gate
 linesOf zero t = []
 linesOf (suc n) t = lineAt t 0 ∷ linesOf n (drop 3 t)
+
+-- 02, 2026-01: a starting line has its reference where a gate has its left operand, and its level where a gate has its right one.
+abbrev pub startLines : List ℕ → List Gate
+startLines t = linesOf (starts t) (drop 3 t)
+
+abbrev pub startOf : Gate → Start
+startOf line = record { input = line .left; level = line .right }
+
+abbrev pub startLine : Start → Gate
+startLine s = record { kind = startKind; left = s .input; right = s .level }
 
 -- 01, Circuits, 2
 abbrev pub gateLines : List ℕ → List Gate
@@ -55,7 +79,8 @@ closingLine r = record { kind = closingKind; left = r; right = 0 }
 
 -- the circuit that a table says, whatever the closing lines hold beside the references
 abbrev pub decode : List ℕ → Circuit
-decode t = record { inputs = inputs t; gates = gateLines t; outputs = map reference (closingLines t) }
+decode t =
+    record { inputs = inputs t; starts = map startOf (startLines t); gates = gateLines t; outputs = map reference (closingLines t) }
 
 -- lines as numbers
 unfoldable pub encodeLines : List Gate → List ℕ
@@ -66,4 +91,4 @@ encodeLines (g ∷ gs) = g .kind ∷ g .left ∷ g .right ∷ encodeLines gs
 unfoldable pub encode : Circuit → List ℕ
 encode c =
     c .inputs ∷ length (c .gates) ∷ length (c .outputs)
-    ∷ (encodeLines (c .gates) ++ encodeLines (map closingLine (c .outputs)))
+    ∷ (encodeLines (map startLine (c .starts)) ++ (encodeLines (c .gates) ++ encodeLines (map closingLine (c .outputs))))

@@ -1,19 +1,21 @@
 -- The theorems about circuits, as statements; each is proved under its name in proofs/.
-use Prim.Native.Nat.{ℕ, _+_, _≤_, _<_}
+use Prim.Native.Nat.{ℕ, suc, _+_, _≤_, _<_}
 use mathlib.Core.Path.{_≡_}
 use mathlib.Core.Logic.{_↔_, _⊎_}
-use mathlib.Core.Bool.{true}
-use mathlib.Core.List.{List}
-use lib.ListN.{length, getD}
-use Rattle.circuit.specs.Circuit.{Gate, Circuit, xorKind, andKind, maxInputs, maxGates, maxOutputs, firstGate, references, gateAt}
-use Rattle.circuit.specs.Table.{inputs, gates, outputs, refs, gateLines, decode, encode}
-use Rattle.circuit.specs.Refusal.{KnownKinds, refusal}
+use mathlib.Core.Bool.{true, not, _&&_}
+use mathlib.Core.List.{List, [], _∷_, _++_, map}
+use lib.ListN.{length, getD, replicate}
+use Rattle.lists.specs.First.{first}
+use Rattle.lines.specs.Text.{isPartial}
+use Rattle.circuit.specs.Circuit.{Gate, Circuit, xorKind, andKind, maxInputs, maxGates, maxOutputs, minLevel, maxLevel, constants, firstGate, references, noStart, gateAt}
+use Rattle.circuit.specs.Table.{inputs, gates, outputs, refs, starts, gatesFrom, gateLines, closingLine, decode, encodeLines, encode}
+use Rattle.circuit.specs.Refusal.{headInLimits, linesAsHeadSays, startsRight, KnownKinds, gateKindsOk, closingKindsOk, operandsOk, closingReferencesOk, refusal}
 use Rattle.circuit.specs.WellFormed.{WellFormed}
 use Rattle.circuit.specs.Each.{countGates, EachGate}
 use Rattle.circuit.specs.Fold.{foldGates}
 use Rattle.circuit.specs.Valuation.{Ordered, Solves}
 use Rattle.circuit.specs.Evaluation.{evaluate}
-use Rattle.circuit.specs.Depth.{plusAnd, depth, circuitDepth}
+use Rattle.circuit.specs.Depth.{plusAnd, startLevels, depth, circuitDepth}
 use Rattle.circuit.specs.Path.{isAmong, isGate, isOperand, isPath, andsOn}
 use Rattle.circuit.specs.ReverseDepth.{isLive, above}
 use Rattle.circuit.specs.Critical.{criticalCount}
@@ -23,18 +25,27 @@ use Rattle.circuit.specs.MeasureCall.{measuring}
 
 -- ---- tables
 
+-- 02, 2026-01, of a circuit's starting lines
+pub record StartLines (c : Circuit) : Type 0 where
+  pub names-input : (i : ℕ) → i < length (c .starts)
+      → (constants ≤ getD (c .starts) i noStart .input) × (getD (c .starts) i noStart .input < firstGate (c .inputs))
+  pub level-limits : (i : ℕ) → i < length (c .starts)
+      → (minLevel ≤ getD (c .starts) i noStart .level) × (getD (c .starts) i noStart .level ≤ maxLevel)
+  pub ascends : (i : ℕ) → suc i < length (c .starts) → getD (c .starts) i noStart .input < getD (c .starts) (suc i) noStart .input
+
 -- A table is well formed exactly if it is not refused.
 abbrev pub AcceptedIsWellFormed : Type 0
 AcceptedIsWellFormed = (t : List ℕ) → (refusal t ≡ 0) ↔ WellFormed t
 
--- 01, Circuits, 2 to 5, of such a table: each gate is an XOR or an AND whose operands are below it, and each output is one of the
--- circuit's references.
+-- 01, Circuits, 2 to 5, of such a table: each gate is an XOR or an AND whose operands are below it, each output is one of the circuit's
+-- references, and its starting lines are right.
 abbrev pub WellFormedIsCircuit : Type 0
 WellFormedIsCircuit =
     (t : List ℕ) → WellFormed t
     → Ordered (firstGate (inputs t)) (gateLines t)
     × EachGate (λ m g. (g .kind ≡ xorKind) ⊎ (g .kind ≡ andKind)) (firstGate (inputs t)) (gateLines t)
     × ((o : ℕ) → isAmong o (decode t .outputs) ≡ true → o < refs t)
+    × StartLines (decode t)
 
 -- The table of a circuit whose gates are each of a known kind says the circuit.
 abbrev pub DecodeAfterEncode : Type 0
@@ -45,14 +56,52 @@ abbrev pub EncodeAfterDecode : Type 0
 EncodeAfterDecode = (t : List ℕ) → WellFormed t → encode (decode t) ≡ t
 
 -- 01, Refusals, 4: no refusal is given outside its condition. The table of a circuit within the limits, each gate an XOR or an AND whose
--- operands are below it, and each output one of its references, is accepted.
+-- operands are below it, each output one of its references, and its starting lines right, is accepted.
 abbrev pub CircuitIsAccepted : Type 0
 CircuitIsAccepted =
     (c : Circuit) → c .inputs ≤ maxInputs → length (c .gates) ≤ maxGates → 1 ≤ length (c .outputs) → length (c .outputs) ≤ maxOutputs
     → Ordered (firstGate (c .inputs)) (c .gates)
     → EachGate (λ m g. (g .kind ≡ xorKind) ⊎ (g .kind ≡ andKind)) (firstGate (c .inputs)) (c .gates)
     → ((o : ℕ) → isAmong o (c .outputs) ≡ true → o < references c)
+    → StartLines c
     → refusal (encode c) ≡ 0
+
+-- ---- starting lines
+
+-- 02, 2026-01: a circuit's starting lines are right exactly if each names an input and a level from 1 to 255, and its reference is above
+-- that of the one before.
+abbrev pub StartsAreRight : Type 0
+StartsAreRight = (c : Circuit) → (startsRight c ≡ true) ↔ StartLines c
+
+-- So there are no more of them than inputs.
+abbrev pub StartsAreInputs : Type 0
+StartsAreInputs = (t : List ℕ) → WellFormed t → starts t ≤ inputs t
+
+-- An input starts at the level that is listed for it, and at 0 if none is; so do the constants.
+abbrev pub StartsAtLevel : Type 0
+StartsAtLevel =
+    (c : Circuit) → startsRight c ≡ true
+    → (length (startLevels c) ≡ firstGate (c .inputs))
+    × ((i : ℕ) → i < length (c .starts) → getD (startLevels c) (getD (c .starts) i noStart .input) 0 ≡ getD (c .starts) i noStart .level)
+    × ((v : ℕ) → ((i : ℕ) → i < length (c .starts) → getD (c .starts) i noStart .input ≡ v → ⊥) → getD (startLevels c) v 0 ≡ 0)
+
+-- A table without starting lines is read as 01 says: where its gate lines begin, and its refusal; and so are, of a circuit without any, its
+-- table and the depths of its constants and inputs. All else that is said of circuits goes by these, but for the sizes of buffers.
+abbrev pub EmptyRun : Type 0
+EmptyRun =
+    ((t : List ℕ) → starts t ≡ 0
+    → (gatesFrom t ≡ 3)
+    × (decode t .starts ≡ [])
+    × (refusal t
+    ≡ first (isPartial 3 t) 1
+    (first (not (headInLimits t)) 4
+    (first (not (linesAsHeadSays t)) 5
+    (first (not (gateKindsOk t && closingKindsOk t)) 6
+    (first (not (operandsOk t && closingReferencesOk t)) 7
+    0))))))
+    × ((c : Circuit) → c .starts ≡ []
+    → (encode c ≡ c .inputs ∷ length (c .gates) ∷ length (c .outputs) ∷ (encodeLines (c .gates) ++ encodeLines (map closingLine (c .outputs))))
+    × (startLevels c ≡ replicate (firstGate (c .inputs)) 0))
 
 -- ---- values, over any carrier
 
@@ -116,6 +165,10 @@ TrimmedIsWellFormed = (t : List ℕ) → WellFormed t → WellFormed (trimOf t)
 abbrev pub TrimKeepsCounts : Type 0
 TrimKeepsCounts =
     (t : List ℕ) → WellFormed t → (inputs (trimOf t) ≡ inputs t) × (outputs (trimOf t) ≡ outputs t) × (gates (trimOf t) ≤ gates t)
+
+-- 02, 2026-01: it has the same starting lines.
+abbrev pub TrimKeepsStarts : Type 0
+TrimKeepsStarts = (t : List ℕ) → WellFormed t → decode (trimOf t) .starts ≡ decode t .starts
 
 -- Its gates are the live ones, as many as there are, each in the place of its new number with its operands renumbered.
 abbrev pub TrimKeepsGates : Type 0

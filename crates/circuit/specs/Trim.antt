@@ -1,5 +1,5 @@
--- 01, Circuits, 8: trimming takes the dead gates out; the others keep their order and are renumbered. That live is 01's: `LiveIsReached`
--- in Theorems.antt.
+-- 01, Circuits, 8: trimming takes the dead gates out; the others keep their order and are renumbered. The starting lines stay (02, 2026-01).
+-- That live is 01's: `LiveIsReached` in Theorems.antt.
 use Prim.Native.Nat.{ℕ, zero, suc, _+_}
 use mathlib.Core.Bool.{Bool, _||_}
 use mathlib.Core.List.{List, [], _∷_, map}
@@ -44,7 +44,7 @@ abbrev pub trimmedOutputs : Circuit → List ℕ
 trimmedOutputs c = map (newNumber c) (c .outputs)
 
 unfoldable pub trim : Circuit → Circuit
-trim c = record { inputs = c .inputs; gates = trimmedGates c; outputs = trimmedOutputs c }
+trim c = record { inputs = c .inputs; starts = c .starts; gates = trimmedGates c; outputs = trimmedOutputs c }
 
 -- the table of the trimmed circuit
 abbrev pub trimOf : List ℕ → List ℕ

@@ -6,7 +6,7 @@ use mathlib.Core.List.{List}
 use lib.ListN.{length}
 use Rattle.circuit.specs.Circuit.{maxInputs, maxGates, maxOutputs}
 use Rattle.circuit.specs.Table.{inputs, gates, outputs, tableEnd}
-use Rattle.circuit.specs.Refusal.{gateKindsOk, closingKindsOk, operandsOk, closingReferencesOk}
+use Rattle.circuit.specs.Refusal.{startsOk, gateKindsOk, closingKindsOk, operandsOk, closingReferencesOk}
 
 -- the head is within its limits, and there are as many lines as it says
 pub record Sized (t : List ℕ) : Type 0 where
@@ -18,6 +18,7 @@ pub record Sized (t : List ℕ) : Type 0 where
 
 pub record WellFormed (t : List ℕ) : Type 0 where
   pub sized : Sized t
+  pub starts-right : startsOk t ≡ true
   pub gate-kinds : gateKindsOk t ≡ true
   pub closing-kinds : closingKindsOk t ≡ true
   pub operands : operandsOk t ≡ true

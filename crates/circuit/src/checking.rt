@@ -1,20 +1,24 @@
-// The refusal of a circuit's table, and its tests in the order of 01's refusals 4 to 7; 6 and 7 in one walk. Each test is true if the
-// refusal does not apply.
+// The refusal of a circuit's table, and its tests in the order of the refusals 4, 5, 11, 6 and 7; 6 and 7 in one walk. Each test is true if
+// the refusal does not apply.
 ghost use mathlib.Core.Path.{_≡_};
 ghost use mathlib.Core.Bool.{_&&_};
-ghost use Prim.Native.Nat.{_+_, _*_, _≤_};
+ghost use Prim.Native.Nat.{suc, _+_, _*_, _≤_};
 ghost use lib.ListN.{length, drop};
-ghost use Rattle.circuit.specs.Circuit.{maxReferences};
+ghost use Rattle.circuit.specs.Circuit.{maxInputs, maxGates, maxOutputs, maxReferences};
 ghost use Rattle.circuit.specs.Each.{allGates};
-ghost use Rattle.circuit.specs.Refusal.{headInLimits, linesAsHeadSays, gateKindsOk, closingKindsOk, operandsOk, closingReferencesOk, refusal};
+ghost use Rattle.circuit.specs.Refusal.{headInLimits, linesAsHeadSays, isStart, startsOk, gateKindsOk, closingKindsOk, operandsOk, closingReferencesOk, refusal};
 ghost use Rattle.circuit.specs.Refusal.{hasGateKind, operandsBelow, isClosing, referenceBelow};
-ghost use Rattle.circuit.specs.Table.{lineAt, linesOf};
+ghost use Rattle.circuit.specs.Table.{inputs, gates, outputs, startRun, gatesFrom, lineAt, linesOf};
 ghost use Rattle.circuit.specs.WellFormed.{Sized};
 use crate::table::AND;
 use crate::table::CLOSING;
+use crate::table::CONSTANTS;
 use crate::table::MAX_GATES;
 use crate::table::MAX_INPUTS;
+use crate::table::MAX_LEVEL;
 use crate::table::MAX_OUTPUTS;
+use crate::table::MIN_LEVEL;
+use crate::table::START;
 use crate::table::XOR;
 use crate::table::closings_from;
 use crate::table::first_gate;
@@ -32,13 +36,83 @@ fn head_in_limits(t: &[u32]) -> bool
     (inputs <= MAX_INPUTS) & ((gates <= MAX_GATES) & ((1 <= outputs) & (outputs <= MAX_OUTPUTS)))
 }
 
-// Refusal 5.
-fn lines_as_head_says(t: &[u32]) -> bool
+// What a walk of the starting lines finds: where they end, and whether they are right, which is refusal 11.
+struct StartRun {
+    end: usize,
+    right: bool,
+}
+
+// Whether a starting line is right, where the line before it names input `before`. Ways out run faster here than one formula.
+fn is_start(before: u32, top: u32, input: u32, level: u32) -> bool
+    ensures { λ r. ⌜ r ≡ isStart top (suc before) (record { input = input; level = level }) ⌝ }
+{
+    if input <= before {
+        return false;
+    }
+    if top <= input {
+        return false;
+    }
+    (MIN_LEVEL <= level) & (level <= MAX_LEVEL)
+}
+
+// Where the starting lines end, of which those from number p on are left.
+fn run_end(t: &[u32], p: usize) -> usize
+    requires { ⌜ p ≤ length (now t) + 3 ⌝ }
+    ensures { λ r. ⌜ r ≡ p + 3 * startRun (drop p (now (t .entry))) ⌝ }
+{
+    let mut q = p;
+    while q + 2 < t.len() {
+        if t[q] != START {
+            return q;
+        }
+        q += 3;
+    }
+    q
+}
+
+// The lines right after the head that begin with 4, whatever else is in them.
+fn walk_starts(t: &[u32]) -> StartRun
     requires { ⌜ 3 ≤ length (now t) ⌝ }
+    requires { ⌜ inputs (now t) ≤ maxInputs ⌝ }
+    ensures { λ r. ⌜ r .end ≡ gatesFrom (now (t .entry)) ⌝ }
+    ensures { λ r. ⌜ r .right ≡ startsOk (now (t .entry)) ⌝ }
+{
+    let top = first_gate(t);
+    let mut before = CONSTANTS - 1;
+    let mut p: usize = 3;
+    while p + 2 < t.len() {
+        if t[p] != START {
+            return StartRun {
+                end: p,
+                right: true,
+            };
+        }
+        let input = t[p + 1];
+        if !is_start(before, top, input, t[p + 2]) {
+            return StartRun {
+                end: run_end(t, p),
+                right: false,
+            };
+        }
+        before = input;
+        p += 3;
+    }
+    StartRun {
+        end: p,
+        right: true,
+    }
+}
+
+// Refusal 5, where the gate lines begin at `from`.
+fn lines_as_head_says(t: &[u32], from: usize) -> bool
+    requires { ⌜ 3 ≤ length (now t) ⌝ }
+    requires { ⌜ (gates (now t) ≤ maxGates) × (outputs (now t) ≤ maxOutputs) ⌝ }
+    requires { ⌜ from ≡ gatesFrom (now t) ⌝ }
     ensures { λ r. ⌜ r ≡ linesAsHeadSays (now (t .entry)) ⌝ }
 {
+    let gates = t[1] as usize;
     let outputs = t[2] as usize;
-    t.len() == closings_from(t) + 3 * outputs
+    t.len() == from + 3 * gates + 3 * outputs
 }
 
 // Which refusals do not apply to the lines tested so far: 6 as long as `kinds` is true, 7 as long as `references` is. Both are kept to the
@@ -105,7 +179,7 @@ fn test_closings(t: &[u32], q: usize, n: usize, top: u32, earlier: Tested) -> Te
     tested
 }
 
-// Refusals 6 and 7, in one walk over the lines behind the head.
+// Refusals 6 and 7, in one walk over the gate lines and closing lines.
 fn test_lines(t: &[u32]) -> Tested
     requires { ⌜ Sized (now t) ⌝ }
     ensures { λ r. ⌜ r .kinds ≡ (gateKindsOk (now (t .entry)) && closingKindsOk (now (t .entry))) ⌝ }
@@ -132,8 +206,12 @@ pub fn refusal(t: &[u32]) -> u32
     if !head_in_limits(t) {
         return 4;
     }
-    if !lines_as_head_says(t) {
+    let starts = walk_starts(t);
+    if !lines_as_head_says(t, starts.end) {
         return 5;
+    }
+    if !starts.right {
+        return 11;
     }
     let tested = test_lines(t);
     if !tested.kinds {

@@ -1,4 +1,4 @@
-// Depths of references, and the depth of a circuit (01, Depth and critical count, 1 and 2).
+// Depths of references, and the depth of a circuit (01, Depth and critical count, 1 and 2; 02, 2026-01).
 ghost use mathlib.Core.Path.{_≡_};
 ghost use Prim.Native.Nat.{_+_, _≤_, max};
 ghost use lib.ListN.{length, take, replicate};
@@ -6,7 +6,7 @@ ghost use Rattle.lines.specs.Calls.{over};
 ghost use Rattle.circuit.specs.Circuit.{maxDepth, firstGate};
 ghost use Rattle.circuit.specs.Table.{inputs, gates, refs, decode};
 ghost use Rattle.circuit.specs.WellFormed.{WellFormed};
-ghost use Rattle.circuit.specs.Depth.{isCounted, plusAnd, depthOp, depths, circuitDepth};
+ghost use Rattle.circuit.specs.Depth.{isCounted, plusAnd, depthOp, setLevels, startLevels, depths, circuitDepth};
 use crate::table::AND;
 use crate::table::closings_from;
 use crate::table::first_gate;
@@ -54,6 +54,30 @@ pub fn clear(d: &mut [u32], n: usize)
     }
 }
 
+// Each starting level in the place of its input.
+fn set_levels(t: &[u32], d: &mut [u32])
+    requires { ⌜ WellFormed (now t) ⌝ }
+    requires { ⌜ firstGate (inputs (now t)) ≤ length (now d) ⌝ }
+    ensures { λ _. ⌜ now (d .exit) ≡ setLevels (decode (now (t .entry)) .starts) (now (d .entry)) ⌝ }
+{
+    let starts = gates_from(t) / 3 - 1;
+    for i in 0..starts {
+        let p = 3 + 3 * i;
+        let input = t[p + 1] as usize;
+        d[input] = t[p + 2];
+    }
+}
+
+// The depths of the constants and inputs, which are their starting levels, over the front of d.
+fn start_levels(t: &[u32], d: &mut [u32])
+    requires { ⌜ WellFormed (now t) ⌝ }
+    requires { ⌜ firstGate (inputs (now t)) ≤ length (now d) ⌝ }
+    ensures { λ _. ⌜ now (d .exit) ≡ over (startLevels (decode (now (t .entry)))) (now (d .entry)) ⌝ }
+{
+    clear(d, first_gate(t) as usize);
+    set_levels(t, d);
+}
+
 // The depths of the gates from gate `start` on, where d begins with those of the references before them.
 pub fn depths_from(t: &[u32], start: usize, d: &mut [u32])
     requires { ⌜ WellFormed (now t) ⌝ }
@@ -79,7 +103,7 @@ pub fn depths(t: &[u32], d: &mut [u32])
     requires { ⌜ refs (now t) ≤ length (now d) ⌝ }
     ensures { λ _. ⌜ now (d .exit) ≡ over (depths (decode (now (t .entry)))) (now (d .entry)) ⌝ }
 {
-    clear(d, first_gate(t) as usize);
+    start_levels(t, d);
     depths_from(t, 0, d);
 }
 

@@ -7,6 +7,7 @@ ghost use Rattle.circuit.specs.MeasureCall.{measuring, paperValues as me
 
 pub mod checked;
 mod checking;
+mod copying;
 mod critical;
 mod depth;
 mod evaluating;

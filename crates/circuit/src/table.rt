@@ -5,7 +5,7 @@ ghost use Prim.Native.Nat.{_+_, _<_, _≤_};
 ghost use lib.ListN.{length, getD};
 ghost use Rattle.circuit.specs.Circuit.{maxInputs, firstGate, noGate};
 ghost use Rattle.circuit.specs.Table.{inputs, gates, outputs, refs, gatesFrom, closingsFrom, decode};
-ghost use Rattle.circuit.specs.WellFormed.{WellFormed};
+ghost use Rattle.circuit.specs.WellFormed.{Sized, WellFormed};
 
 pub const MAX_INPUTS: u32 = 512;
 
@@ -22,7 +22,7 @@ pub const MAX_REFERENCES: usize = (CONSTANTS + MAX_INPUTS + MAX_GATES) as usize;
 pub const LAST_REFERENCE: u32 = MAX_REFERENCES as u32 - 1;
 
 // As many lines, and numbers, as a table has at most.
-pub const MAX_LINES: usize = (1 + MAX_GATES + MAX_OUTPUTS) as usize;
+pub const MAX_LINES: usize = (1 + MAX_INPUTS + MAX_GATES + MAX_OUTPUTS) as usize;
 
 pub const MAX_TABLE: usize = 3 * MAX_LINES;
 
@@ -37,6 +37,13 @@ pub const XOR: u32 = 1;
 pub const AND: u32 = 2;
 
 pub const CLOSING: u32 = 3;
+
+pub const START: u32 = 4;
+
+// The levels that a starting line may give.
+pub const MIN_LEVEL: u32 = 1;
+
+pub const MAX_LEVEL: u32 = 255;
 
 // A gate: its kind and its two operands. Closing lines, and the lines of a rule, are read as the same three numbers.
 pub struct Gate {
@@ -54,20 +61,22 @@ pub fn first_gate(t: &[u32]) -> u32
     t[0] + CONSTANTS
 }
 
-// Where the gate lines begin: the head's length is said here alone.
-pub fn gates_from(t: &[u32]) -> usize
-    ensures { λ r. ⌜ r ≡ gatesFrom (now (t .entry)) ⌝ }
-{
-    3
-}
-
-// Where the closing lines begin. The head may still be unchecked: three times any 32-bit number is within a usize.
+// Where the closing lines begin. They are the last of a table that has as many lines as it says.
 pub fn closings_from(t: &[u32]) -> usize
-    requires { ⌜ 3 ≤ length (now t) ⌝ }
+    requires { ⌜ Sized (now t) ⌝ }
     ensures { λ r. ⌜ r ≡ closingsFrom (now (t .entry)) ⌝ }
 {
+    let outputs = t[2] as usize;
+    t.len() - 3 * outputs
+}
+
+// Where the gate lines begin: before the closing lines, so that the starting lines need not be walked again.
+pub fn gates_from(t: &[u32]) -> usize
+    requires { ⌜ Sized (now t) ⌝ }
+    ensures { λ r. ⌜ r ≡ gatesFrom (now (t .entry)) ⌝ }
+{
     let gates = t[1] as usize;
-    gates_from(t) + 3 * gates
+    closings_from(t) - 3 * gates
 }
 
 // Gate i of the circuit, counted from 0, where the gate lines begin at `from`. Its operands are below its own reference.

@@ -11,6 +11,7 @@ ghost use Rattle.circuit.specs.WellFormed.{WellFormed};
 ghost use Rattle.circuit.specs.Depth.{depths};
 ghost use Rattle.circuit.specs.ReverseDepth.{reverseDepths};
 ghost use Rattle.circuit.specs.Trim.{newNumber, renumberedGate, trimmedGates, trimmedOutputs, trim, trimOf};
+use crate::copying::copy_over;
 use crate::reverse_depth::reverse_depths;
 use crate::table::CLOSING;
 use crate::table::MAX_REFERENCES;
@@ -135,7 +136,7 @@ fn trim_in(t: &[u32], u: &mut [u32], names: &mut [u32], out: &mut [u32]) -> usiz
 }
 
 // The same, where u begins with the reverse depths. Of `names`, where references find their new numbers, nothing is asked before or after. The
-// head is written last, when it is known how many gates are kept.
+// starting lines are copied, with the head, which is written anew when it is known how many gates are kept.
 pub fn trim_by_reverse_depths(t: &[u32], u: &[u32], names: &mut [u32], out: &mut [u32]) -> usize
     requires { ⌜ WellFormed (now t) ⌝ }
     requires { ⌜ refs (now t) ≤ length (now u) ⌝ }
@@ -145,8 +146,10 @@ pub fn trim_by_reverse_depths(t: &[u32], u: &[u32], names: &mut [u32], out: &mut
     ensures { λ _. ⌜ now (out .exit) ≡ over (trimOf (now (t .entry))) (now (out .entry)) ⌝ }
     ensures { λ r. ⌜ r ≡ length (trimOf (now (t .entry))) ⌝ }
 {
+    let from = gates_from(t);
+    copy_over(&t[..from], out);
     let kept = write_gates(t, u, names, out);
-    let closings = gates_from(t) + 3 * kept as usize;
+    let closings = from + 3 * kept as usize;
     let end = write_closings(t, names, out, closings);
     write_row(out, 0, t[0], kept, t[2]);
     end

@@ -2,21 +2,21 @@
 use mathlib.Core.Path.{_≡_, refl, sym, ap, ap₂, _∙_}
 use mathlib.Core.Bool.{Bool, true, false, not, _&&_}
 use mathlib.Core.List.{List, [], _∷_, _++_}
-use Prim.Native.Nat.{ℕ, zero, suc, _+_, _*_, _/_, _%_, _≤_, _<_}
-use native.Mathlib.Nat.{mul-div-right, mul-mod-right, mul-pos}
+use Prim.Native.Nat.{ℕ, zero, suc, _+_, _-_, _*_, _/_, _%_, _≤_, _<_}
+use native.Mathlib.Nat.{add-zero, mul-div-right, mul-mod-right, mul-pos}
 use native.Mathlib.Omega.{arith}
 use lib.ListN.{length, take, drop, getD, length-drop, take-append-drop, List·getD-append}
 use lib.Seq.{length-take-le, take-append-le, drop-append-le}
 use borrow.Author.Tests.{eq-eqb, ne-eqb, le-leb, not-true}
 use Rattle.lists.specs.Records.{mapRecords, allRecords}
 use Rattle.lists.proofs.Tests.{both, left-of, right-of}
-use Rattle.lists.proofs.Records.{map-length}
+use Rattle.lists.proofs.Records.{all-at, all-behind, map-length, map-at, map-behind}
 use Rattle.lists.proofs.Fronts.{all-fewer, all-append, map-append, map-fewer}
-use Rattle.lines.specs.Number.{readNumber}
+use Rattle.lines.specs.Number.{readNumber, isNumber}
 use Rattle.lines.specs.Line.{isRow, isLine, readLine, writeLine}
 use Rattle.lines.specs.Text.{isPartial, isTable, readText, writeTable}
 use Rattle.lines.specs.Calls.{over}
-use Rattle.lines.proofs.LineLaws.{row-length, line-length}
+use Rattle.lines.proofs.LineLaws.{row-length, line-length, line-numbers}
 use Rattle.lines.proofs.CallLaws.{Valid, whole-is}
 
 -- whole lines, at least one
@@ -100,6 +100,30 @@ module _ (text : List ℕ) (n : ℕ) (v : Valid 19 isLine text n) (k : ℕ) (few
         ap (λ j. mapRecords readLine 19 j (take (19 * k) text)) (sym (front-valid .whole .count))
         ∙ sym (map-append readLine 19 read-near k (take (19 * k) text) (drop (19 * k) text) front-long)
         ∙ ap (mapRecords readLine 19 k) (take-append-drop (19 * k) text) ∙ front-numbers
+
+-- ---- m lines behind the first k, and one line by itself
+
+module _ (text : List ℕ) (n : ℕ) (v : Valid 19 isLine text n) where
+  module _ (k m : ℕ) (fewer : k + m ≤ n) where
+    pub behind-right : allRecords isLine 19 m (drop (19 * k) text) ≡ true
+    behind-right = all-fewer isLine 19 m (n - k) (drop (19 * k) text) (omega arith) (all-behind isLine 19 k n (n - k) text (omega arith) (v .right))
+
+    pub behind-numbers : mapRecords readLine 19 m (drop (19 * k) text) ≡ take (3 * m) (drop (3 * k) (readText text))
+    unfolding readText
+    behind-numbers =
+        sym (ap (λ j. take (3 * m) (drop (3 * k) (mapRecords readLine 19 j text))) (sym (v .whole .count))
+        ∙ ap (take (3 * m)) (map-behind readLine 19 3 row-length k n (n - k) text (omega arith))
+        ∙ map-fewer readLine 19 3 row-length m (n - k) (drop (19 * k) text) (omega arith))
+
+  module _ (i : ℕ) (h : i < n) where
+    pub first-right : isNumber (drop (19 * i) text) ≡ true
+    first-right = line-numbers text (19 * i) (omega (arith, v .whole .long)) (all-at isLine 19 i n text h (v .right)) .0
+
+    pub first-number : getD (readText text) (3 * i) 0 ≡ readNumber (drop (19 * i) text)
+    unfolding readText readLine
+    first-number =
+        ap₂ (λ j p. getD (mapRecords readLine 19 j text) p 0) (sym (v .whole .count)) (sym (add-zero (3 * i)))
+        ∙ map-at readLine 19 3 row-length i n 0 text 0 h (omega arith)
 
 -- all of its numbers
 pub numbers-length : (text : List ℕ) (n : ℕ) → Valid 19 isLine text n → length (readText text) ≡ 3 * n

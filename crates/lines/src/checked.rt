@@ -4,6 +4,7 @@ ghost use mathlib.Core.List.{[], _∷_};
 ghost use Prim.Native.Nat.{_+_, _≤_};
 ghost use lib.ListN.{length};
 ghost use lib.Seq.{sets};
+pub use crate::number::read_number;
 pub use crate::text::read_lines;
 pub use crate::text::write_lines;
 

@@ -15,7 +15,7 @@ pub fn is_partial(table: &[u32]) -> bool
     (table.len() == 0) | (table.len() % 3 != 0)
 }
 
-// Whether each of the first `lines` lines is well written. A wrong line does not end the loop, since it runs faster without a way out.
+// Whether each of the first `lines` lines is well written. A wrong line does not end the loop: that would be one test more a line.
 pub fn are_lines(text: &[u8], lines: usize) -> bool
     requires { ⌜ 19 * lines ≤ length (now text) ⌝ }
     ensures { λ r. ⌜ r ≡ allRecords isLine 19 lines (now (text .entry)) ⌝ }

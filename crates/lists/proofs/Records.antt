@@ -7,7 +7,7 @@ use native.Mathlib.Nat.{zero-add, mul-zero, mul-suc, add-comm, not-suc-le-zero, 
 use native.Mathlib.Numerals.{add-one}
 use native.Mathlib.Omega.{arith}
 use lib.ListN.{length, drop, getD, length-append, length-drop, List·getD-append}
-use lib.Seq.{sets, length-sets, drop-drop, drop-at, getD-append-add}
+use lib.Seq.{sets, length-sets, drop-drop, drop-at, drop-append-add, getD-append-add}
 use Rattle.lists.specs.Records.{mapRecords, allRecords}
 use Rattle.lists.proofs.Tests.{left-of, right-of}
 use Rattle.lists.proofs.Stores.{sets-behind}
@@ -30,6 +30,13 @@ module _ {A : Type 0} (test : List A → Bool) (size : ℕ) where
   all-at zero (suc n) t h e = rw mul-zero (left-of (test t) _ e)
   all-at (suc i) (suc n) t h e = rw (drop-drop, next) at (all-at i n (drop size t) (le-of-suc-le-suc h) (right-of (test t) _ e))
 
+  -- the records behind the first k
+  pub all-behind : (k n m : ℕ) (t : List A) → n ≡ k + m → allRecords test size n t ≡ true → allRecords test size m (drop (size * k) t) ≡ true
+  unfolding allRecords
+  all-behind zero n m t q e = let q′ : n ≡ m = omega arith in rw (mul-zero, ← q′) e
+  all-behind (suc k) zero m t q e = let z : ⊥ = omega arith in absurd z
+  all-behind (suc k) (suc n) m t q e = rw (drop-drop, next) at (all-behind k n m (drop size t) (omega arith) (right-of (test t) _ e))
+
 module _ {A B : Type 0} (make : List A → List B) (size width : ℕ) (wide : (t : List A) → length (make t) ≡ width) where
   pub map-length : (n : ℕ) (t : List A) → length (mapRecords make size n t) ≡ width * n
   unfolding mapRecords
@@ -40,6 +47,16 @@ module _ {A B : Type 0} (make : List A → List B) (size width : ℕ) (wide : (t
   unfolding mapRecords
   map-more zero t = rw (mul-zero, append-nil)
   map-more (suc n) t = ap (λ (r : List B). make t ++ r) (map-more n (drop size t)) ∙ rw (drop-drop, next, append-assoc)
+
+  -- what the records behind the first k give
+  pub map-behind : (k n m : ℕ) (t : List A) → n ≡ k + m → drop (width * k) (mapRecords make size n t) ≡ mapRecords make size m (drop (size * k) t)
+  unfolding mapRecords
+  map-behind zero n m t q = let q′ : n ≡ m = omega arith in rw (mul-zero, mul-zero, q′)
+  map-behind (suc k) zero m t q = let z : ⊥ = omega arith in absurd z
+  map-behind (suc k) (suc n) m t q =
+      let e : width * suc k ≡ length (make t) + width * k = omega (arith, mul-suc width k, wide t) in
+      ap (λ j. drop j (make t ++ mapRecords make size n (drop size t))) e ∙ drop-append-add (make t) (mapRecords make size n (drop size t)) (width * k)
+      ∙ map-behind k n m (drop size t) (omega arith) ∙ rw (drop-drop, next)
 
   -- element j of what record i gives
   pub map-at : (i n j : ℕ) (t : List A) (z : B) → i < n → j < width → getD (mapRecords make size n t) (width * i + j) z ≡ getD (make (drop (size * i) t)) j z

@@ -20,20 +20,22 @@ use Rattle.circuit.specs.Circuit.{maxTable, lineCount, maxLines}
 use Rattle.circuit.specs.Table.{encode}
 use Rattle.circuit.specs.Refusal.{refusal, circuitTable}
 use Rattle.circuit.proofs.BufferLaws.{over-take}
+use Rattle.circuit.proofs.EncodingLaws.{encode-lines-length}
 use Rattle.rules.specs.RuleRefusal.{rulesRefusal, rulesTable}
 use Rattle.rules.specs.SiteTable.{siteCount, maxSites, sitesRefusal, sitesTable}
 use Rattle.rewriting.specs.Run.{finalState, allVerdicts}
 use Rattle.rewriting.specs.RewriteCall.{Lent, outcomeOf, areShort, doneValues, tableChecks, rewriteChecks, rewriting}
 use Rattle.rewriting.proofs.CallLaws.{rewriting-given}
-use Rattle.rewriting.proofs.Theorems.{limited-encoded, success-is-safe}
+use Rattle.rewriting.proofs.Theorems.{success-is-safe}
 use Rattle.napspruce.specs.declared.numbers.Summary.{Summary}
 use Rattle.napspruce.specs.Listing.{listingLines, summaryOf, listingTable, listingText}
 use Rattle.napspruce.specs.ListingCall.{maxListing, textRefusal, textChecks, listTables, listTexts, putting, tablesOutcome, listingOutcome}
-use Rattle.napspruce.specs.Front.{maxRulesLines, maxSitesLines, front}
+use Rattle.napspruce.specs.Front.{maxRulesLines, maxSitesLines, front, shortened}
 use Rattle.napspruce.specs.Theorems.{FrontIsListedAlike, CutIsListedAlike}
 use Rattle.napspruce.proofs.TextLaws.{accepted-text, cut-accepted, cut-read}
-use Rattle.napspruce.proofs.FrontLaws.{Alike, alike-number, circuit-alike, rules-alike, sites-alike}
-use Rattle.napspruce.proofs.ListingLaws.{circuit-length}
+use Rattle.napspruce.proofs.FrontLaws.{Alike, alike-number, rules-alike, sites-alike}
+use Rattle.napspruce.proofs.ShortenedLaws.{circuit-alike}
+use Rattle.napspruce.proofs.ListingLaws.{lines-limit}
 
 -- ---- of tables
 
@@ -43,7 +45,7 @@ alike-same refusal f t a z = ⊎-elim (λ e. e) (λ w. absurd (w .1 z)) a
 -- the fronts of tables: their checks, and the listing where none applies
 module _ (c r s : List ℕ) (pc : isPartial 3 c ≡ false) (pr : isPartial 3 r ≡ false) (ps : isPartial 3 s ≡ false) where
   abbrev c′ : List ℕ
-  c′ = front maxLines c
+  c′ = shortened c
 
   abbrev r′ : List ℕ
   r′ = front maxRulesLines r
@@ -65,7 +67,7 @@ module _ (c r s : List ℕ) (pc : isPartial 3 c ≡ false) (pr : isPartial 3 r �
 pub front-is-listed-alike : FrontIsListedAlike
 unfolding listTables
 front-is-listed-alike c r s pc pr ps =
-    ap (λ ks. answering ks (listingText (front maxLines c) (front maxRulesLines r) (front maxSitesLines s))) (front-checks c r s pc pr ps)
+    ap (λ ks. answering ks (listingText (shortened c) (front maxRulesLines r) (front maxSitesLines s))) (front-checks c r s pc pr ps)
     ∙ answer-same (tableChecks c r s) _ _ (front-text c r s pc pr ps)
 
 -- ---- by the call `rewrite`, on tables of whole lines and buffers with room
@@ -102,14 +104,14 @@ rewrote circuit rules sites result work verdicts table rest given lines d₀ n�
     let t : table ≡ _ = ap (λ (x : Lent). x .result) left in
     let g : given ≡ _ = ap (λ (x : Lent). x .verdicts) left in
     let circuitLines : take (3 * lines) table ≡ encode final =
-    ap (take (3 * lines)) t ∙ over-take (encode final) result (3 * lines) (circuit-length final ∙ ap (λ k. 3 * k) (sym l)) in
+    ap (take (3 * lines)) t ∙ over-take (encode final) result (3 * lines) (encode-lines-length final ∙ ap (λ k. 3 * k) (sym l)) in
     let verdictBytes : take (siteCount sites) given ≡ allVerdicts circuit rules sites =
     ap (take (siteCount sites)) g ∙ over-take (allVerdicts circuit rules sites) verdicts (siteCount sites) (safe .verdict-each) in
     let s : record { old = record { depth = d₀; critical = n₀ }; new = record { depth = d₁; critical = n₁ }; sites = siteCount sites; kept = kept } ≡ summaryOf circuit rules sites = cc in
     record {
       accepted = (a, (b, (c, tt)));
       numbers = ap₂ (λ x y. listingLines x y (take (siteCount sites) given)) circuitLines s ∙ ap (λ x. listingLines (encode final) (summaryOf circuit rules sites) x) verdictBytes;
-      line-limit = omega (arith, l, limited-encoded final (safe .well-formed));
+      line-limit = omega (arith, l, lines-limit final (safe .well-formed));
       site-limit = ws .count-limit;
     }
 
@@ -155,7 +157,7 @@ front-whole most text h =
     ]
 
 pub fronts-listed : (circuit rules sites buffer : List ℕ) → textRefusal circuit ≡ 0 → textRefusal rules ≡ 0 → textRefusal sites ≡ 0 → (c r s : List ℕ)
-    → c ≡ front maxLines (readText circuit) → r ≡ front maxRulesLines (readText rules) → s ≡ front maxSitesLines (readText sites)
+    → c ≡ shortened (readText circuit) → r ≡ front maxRulesLines (readText rules) → s ≡ front maxSitesLines (readText sites)
     → tablesOutcome c r s buffer ≡ tablesOutcome (readText circuit) (readText rules) (readText sites) buffer
 fronts-listed circuit rules sites buffer hc hr hs c r s ec er es =
     let t = readText circuit in
@@ -164,14 +166,14 @@ fronts-listed circuit rules sites buffer hc hr hs c r s ec er es =
     let pc = text-whole circuit hc in
     let pr = text-whole rules hr in
     let ps = text-whole sites hs in
-    ap₂ (λ x y. tablesOutcome x y s buffer) ec er ∙ ap (λ z. tablesOutcome (front maxLines t) (front maxRulesLines u) z buffer) es
-    ∙ ap (λ ks. putting ks (listingText (front maxLines t) (front maxRulesLines u) (front maxSitesLines v)) buffer) (front-checks t u v pc pr ps)
+    ap₂ (λ x y. tablesOutcome x y s buffer) ec er ∙ ap (λ z. tablesOutcome (shortened t) (front maxRulesLines u) z buffer) es
+    ∙ ap (λ ks. putting ks (listingText (shortened t) (front maxRulesLines u) (front maxSitesLines v)) buffer) (front-checks t u v pc pr ps)
     ∙ outcome-same (tableChecks t u v) _ _ buffer _ _
     (λ p. let e = front-text t u v pc pr ps p in (ap (λ x. length x ∷ []) e, ap (λ x. over x buffer) e))
 
 pub cut-is-listed-alike : CutIsListedAlike
 unfolding listTexts
-cut-is-listed-alike circuit rules sites room hc hr hs =
+cut-is-listed-alike circuit rules sites room hc hr hs cutCircuit accepted read =
     let t = readText circuit in
     let u = readText rules in
     let v = readText sites in
@@ -179,10 +181,10 @@ cut-is-listed-alike circuit rules sites room hc hr hs =
     let pr = text-whole rules hr in
     let ps = text-whole sites hs in
     rw (
-      cut-accepted maxLines circuit hc,
+      accepted,
       cut-accepted maxRulesLines rules hr,
       cut-accepted maxSitesLines sites hs,
-      cut-read maxLines circuit hc,
+      read,
       cut-read maxRulesLines rules hr,
       cut-read maxSitesLines sites hs,
       hc,
@@ -190,7 +192,7 @@ cut-is-listed-alike circuit rules sites room hc hr hs =
       hs,
     )
     (ap (λ ks. answering (found 0 circuitTable ∷ found 0 rulesTable ∷ found 0 sitesTable ∷ check (ltb room maxListing) 2 noTable ∷ ks)
-    (listingText (front maxLines t) (front maxRulesLines u) (front maxSitesLines v))) (front-checks t u v pc pr ps)
+    (listingText (shortened t) (front maxRulesLines u) (front maxSitesLines v))) (front-checks t u v pc pr ps)
     ∙ answer-same (found 0 circuitTable ∷ found 0 rulesTable ∷ found 0 sitesTable ∷ check (ltb room maxListing) 2 noTable ∷ tableChecks t u v) _ _
     (λ p. front-text t u v pc pr ps (p .1 .1 .1 .1)))
 

@@ -12,10 +12,6 @@ use lib.Seq.{length-take-le, take-all, getD-take}
 use borrow.Author.Tests.{ne-eqb, leb-true}
 use Rattle.lists.proofs.Tests.{left-of, right-of}
 use Rattle.lines.specs.Text.{isPartial}
-use Rattle.circuit.specs.Circuit.{maxInputs, maxGates, maxOutputs, maxLines}
-use Rattle.circuit.specs.Table.{inputs, gates, outputs, tableEnd}
-use Rattle.circuit.specs.Refusal.{headInLimits, refusal}
-use Rattle.circuit.proofs.RefusalLaws.{refusal-head, refusal-lines}
 use Rattle.rules.specs.Rule.{maxRules}
 use Rattle.rules.specs.RuleTable.{ruleCount, rulesFrom, nextRule}
 use Rattle.rules.specs.RuleRefusal.{rulesHeadInLimits, ruleInLimits, walk, walkFromTop, rulesRefusal}
@@ -71,32 +67,15 @@ module _ (refusal : List ℕ → ℕ) (head : List ℕ → Bool) (end : List ℕ
           let b = refused-head (front most t) (whole-front most t l) (near t l ∙ h) in
           (sym b ∙ a, λ z. let y : ⊥ = omega (arith, a, z) in y)
 
--- ---- circuit and sites
-
-circuit-limit : (t : List ℕ) → headInLimits t ≡ true → tableEnd t ≤ 3 * maxLines
-circuit-limit t h =
-    let a = leb (inputs t) maxInputs in
-    let b = leb (gates t) maxGates in
-    let c = leb 1 (outputs t) in
-    let d = leb (outputs t) maxOutputs in
-    let h1 = right-of a (b && (c && d)) h in
-    let g : gates t ≤ maxGates = leb-true _ _ (left-of b (c && d) h1) in
-    let o : outputs t ≤ maxOutputs = leb-true _ _ (right-of c d (right-of b (c && d) h1)) in
-    omega arith
+-- ---- sites
 
 sites-limit : (t : List ℕ) → sitesHeadInLimits t ≡ true → sitesEnd t ≤ 3 * maxSitesLines
 sites-limit t h =
     let n : siteCount t ≤ maxSites = leb-true _ _ (left-of (leb (siteCount t) maxSites) (eqb (getD t 1 0) 0 && eqb (getD t 2 0) 0) h) in
     omega arith
 
-circuit-near : (most : ℕ) (t : List ℕ) → 3 * (most + 1) < length t → headInLimits (front most t) ≡ headInLimits t
-circuit-near most t l = rw (at-front most t l 0 (omega arith), at-front most t l 1 (omega arith), at-front most t l 2 (omega arith))
-
 sites-near : (most : ℕ) (t : List ℕ) → 3 * (most + 1) < length t → sitesHeadInLimits (front most t) ≡ sitesHeadInLimits t
 sites-near most t l = rw (at-front most t l 0 (omega arith), at-front most t l 1 (omega arith), at-front most t l 2 (omega arith))
-
-pub circuit-alike : (t : List ℕ) → isPartial 3 t ≡ false → Alike refusal (front maxLines t) t
-circuit-alike = headed-alike refusal headInLimits tableEnd maxLines refusal-head refusal-lines (circuit-near maxLines) circuit-limit
 
 pub sites-alike : (t : List ℕ) → isPartial 3 t ≡ false → Alike sitesRefusal (front maxSitesLines t) t
 sites-alike = headed-alike sitesRefusal sitesHeadInLimits sitesEnd maxSitesLines sites-head sites-lines (sites-near maxSitesLines) sites-limit

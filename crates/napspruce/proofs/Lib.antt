@@ -1,5 +1,6 @@
-pub mod TextLaws
 pub mod FrontLaws
+pub mod ShortenedLaws
+pub mod TextLaws
 pub mod NumberLaws
 pub mod ListingLaws
 pub mod WriteLaws

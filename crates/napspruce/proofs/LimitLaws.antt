@@ -1,6 +1,6 @@
 -- What each call gives is within its limits. Assumes nothing.
 use mathlib.Core.Path.{_≡_}
-use mathlib.Core.Bool.{Bool}
+use mathlib.Core.Bool.{Bool, true}
 use mathlib.Core.List.{List, [], _∷_, _++_}
 use Prim.Native.Nat.{ℕ, _/_, _≤_}
 use native.Mathlib.Nat.{le-refl}
@@ -14,9 +14,9 @@ use Rattle.lines.specs.Refusal.{gives, noTable}
 use Rattle.lines.specs.Checks.{found}
 use Rattle.lines.specs.Calls.{conversionChecks, conversion}
 use Rattle.lines.proofs.CheckLaws.{check-passed, answer-given, answer-either}
-use Rattle.circuit.specs.Circuit.{Circuit, maxGates}
+use Rattle.circuit.specs.Circuit.{Circuit, maxDepth}
 use Rattle.circuit.specs.Table.{decode}
-use Rattle.circuit.specs.Refusal.{refusal, circuitTable}
+use Rattle.circuit.specs.Refusal.{startsRight, refusal, circuitTable}
 use Rattle.circuit.specs.Depth.{circuitDepth}
 use Rattle.circuit.specs.Trim.{trim}
 use Rattle.circuit.specs.EvaluateCall.{evaluateChecks, evaluating}
@@ -35,12 +35,13 @@ use Rattle.rewriting.specs.Run.{startState, finalState}
 use Rattle.rewriting.specs.RewriteCall.{doneValues, rewriteChecks, rewriting}
 use Rattle.rewriting.proofs.PairLaws.{critical-limit}
 use Rattle.rewriting.proofs.RunLaws.{kept-limit}
-use Rattle.rewriting.proofs.Theorems.{limited-encoded, run-is-safe}
+use Rattle.rewriting.proofs.Theorems.{valid-encoded, limited-encoded, run-is-safe}
 use Rattle.translator.specs.Machine.{maxRegisters}
 use Rattle.translator.specs.Need.{need}
 use Rattle.translator.specs.TranslateCall.{isLimit, translateChecks, needChecks, translating}
 use Rattle.translator.proofs.Theorems.{program-count}
 use Rattle.napspruce.specs.ListingCall.{listingOutcome}
+use Rattle.napspruce.proofs.ListingLaws.{lines-limit}
 use Rattle.napspruce.proofs.KnownLaws.{length-within}
 use Rattle.napspruce.proofs.RefusalLaws.{check-within, circuit-within, rules-within, tables-within}
 use Rattle.napspruce.specs.Limits.{EachWithin, Within, evaluateLimits, measureLimits, judgeLimits, matchLimits, rewriteLimits, translateLimits}
@@ -48,8 +49,8 @@ use Rattle.napspruce.specs.Theorems.{ReadIsWithin, WriteIsWithin, Evalua
 
 -- ---- D of a circuit
 
-depth-limit : (c : Circuit) → Limited c → circuitDepth c ≤ maxGates
-depth-limit c l = omega (arith, circuit-depth-le c, l .gates-limit)
+depth-limit : (c : Circuit) → startsRight c ≡ true → Limited c → circuitDepth c ≤ maxDepth
+depth-limit c e l = omega (arith, circuit-depth-le c e, l .gates-limit)
 
 -- ---- the calls
 
@@ -87,7 +88,10 @@ pub measure-is-within : MeasureIsWithin
 unfolding measuring
 measure-is-within circuit =
     answer-either (found (refusal circuit) circuitTable ∷ []) _ (Within measureLimits) (circuit-within circuit, tt)
-    (λ p. let l = limited-decode circuit (accepted-is-well-formed circuit .0 (p .0) .sized) in (depth-limit (decode circuit) l, (critical-limit (decode circuit) l, tt)))
+    (λ p.
+    let w = accepted-is-well-formed circuit .0 (p .0) in
+    let l = limited-decode circuit (w .sized) in
+    (depth-limit (decode circuit) (w .starts-right) l, (critical-limit (decode circuit) l, tt)))
 
 pub judge-is-within : JudgeIsWithin
 unfolding judging
@@ -114,12 +118,12 @@ done-within circuit rules sites okc okr oks =
     let c = finalState circuit rules sites .circuit in
     let new = limited-encoded c (safe .well-formed) in
     let few = accepted-sites-are-well-formed sites .0 oks .count-limit in (
-      omega (arith, new .gates-limit, new .outputs-limit),
+      lines-limit c (safe .well-formed),
       (
-        depth-limit (decode circuit) old,
+        depth-limit (decode circuit) (w .starts-right) old,
         (
           critical-limit (decode circuit) old,
-          (depth-limit c new, (critical-limit c new, (omega (arith, few, kept-limit rules sites (startState (decode circuit)) (siteCount sites)), tt))),
+          (depth-limit c (valid-encoded c (safe .well-formed) .starts-right) new, (critical-limit c new, (omega (arith, few, kept-limit rules sites (startState (decode circuit)) (siteCount sites)), tt))),
         ),
       ),
     )

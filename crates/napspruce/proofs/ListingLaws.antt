@@ -10,17 +10,18 @@ use lib.ListN.{length, getD, length-append}
 use Rattle.lines.specs.Line.{isRow}
 use Rattle.lines.proofs.CallLaws.{Valid}
 use Rattle.lines.proofs.TextLaws.{AllSmall, small-append, small-rows, small-line, whole-passes}
-use Rattle.circuit.specs.Circuit.{Gate, Circuit, closingKind, firstGate, noGate, lineCount}
-use Rattle.circuit.specs.Table.{decode, closingLine, encodeLines, encode}
+use Rattle.circuit.specs.Circuit.{Gate, Start, Circuit, closingKind, startKind, constants, firstGate, noGate, lineCount, maxLines}
+use Rattle.circuit.specs.Table.{decode, startLine, closingLine, encodeLines, encode}
 use Rattle.circuit.specs.Depth.{circuitDepth}
 use Rattle.circuit.specs.Critical.{criticalCount}
 use Rattle.circuit.specs.Each.{EachGate}
 use Rattle.circuit.specs.Path.{isAmong}
-use Rattle.circuit.specs.Refusal.{hasGateKind}
+use Rattle.circuit.specs.Refusal.{startsAscend, hasGateKind}
 use Rattle.circuit.specs.WellFormed.{WellFormed}
 use Rattle.circuit.proofs.BoundLaws.{circuit-depth-le, critical-count-le}
 use Rattle.circuit.proofs.EachLaws.{each-at, each-of}
-use Rattle.circuit.proofs.EncodingLaws.{encode-gates, encode-outputs, encode-long}
+use Rattle.circuit.proofs.EncodingLaws.{encode-lines-length}
+use Rattle.circuit.proofs.StartLaws.{right-head, right-tail, right-count}
 use Rattle.circuit.proofs.RefusalLaws.{either}
 use Rattle.circuit.proofs.ValidLaws.{among-head, among-tail, limited-decode}
 use Rattle.rules.specs.SiteTable.{siteCount}
@@ -48,6 +49,14 @@ unfolding encodeLines
 small-closings [] h = tt
 small-closings (o ∷ os) h = small-line closingKind o 0 (encodeLines (map closingLine os)) (omega arith) (h o (among-head o os)) (omega arith) (small-closings os (λ x e. h x (among-tail x o os e)))
 
+small-starts : (top low : ℕ) → top ≤ 999999 → (ss : List Start) → startsAscend top low ss ≡ true → AllSmall (encodeLines (map startLine ss))
+unfolding encodeLines
+small-starts top low h [] e = tt
+small-starts top low h (s ∷ ss) e =
+    let r = right-head top low s ss e in
+    small-line startKind (s .input) (s .level) (encodeLines (map startLine ss)) (omega arith) (omega arith) (omega arith)
+    (small-starts top (suc (s .input)) h ss (right-tail top low s ss e))
+
 small-circuit : (c : Circuit) → WellFormed (encode c) → AllSmall (encode c)
 unfolding encode
 small-circuit c w =
@@ -60,13 +69,18 @@ small-circuit c w =
     ⊎-elim (λ e. omega arith) (λ e. omega arith) (either (getD (c .gates) i noGate .kind) (each-at (λ m g. hasGateKind m g ≡ true) n (c .gates) (v .kinds) i h)) in
     let o = each-at (λ m g. (g .left < m) × (g .right < m)) n (c .gates) (v .ordered) i h in
     (k, omega (arith, o, l), omega (arith, o, l)) in
-    small-line (c .inputs) (length (c .gates)) (length (c .outputs)) (encodeLines (c .gates) ++ encodeLines (map closingLine (c .outputs))) (omega (arith, l)) (omega (arith, l)) (omega (arith, l))
-    (small-append (encodeLines (c .gates)) (encodeLines (map closingLine (c .outputs))) (small-lines n (c .gates) (each-of SmallLine n (c .gates) line))
-    (small-closings (c .outputs) (λ o e. omega (arith, v .outputs-below o e, l))))
+    let ss = encodeLines (map startLine (c .starts)) in
+    let gs = encodeLines (c .gates) in
+    let os = encodeLines (map closingLine (c .outputs)) in
+    small-line (c .inputs) (length (c .gates)) (length (c .outputs)) (ss ++ (gs ++ os)) (omega (arith, l)) (omega (arith, l)) (omega (arith, l))
+    (small-append ss (gs ++ os) (small-starts n constants (omega (arith, l)) (c .starts) (v .starts-right))
+    (small-append gs os (small-lines n (c .gates) (each-of SmallLine n (c .gates) line))
+    (small-closings (c .outputs) (λ o e. omega (arith, v .outputs-below o e, l)))))
 
--- its lines
-pub circuit-length : (c : Circuit) → length (encode c) ≡ 3 * lineCount c
-circuit-length c = encode-long c ∙ omega (arith, encode-gates c, encode-outputs c)
+-- it has no more lines than the largest table
+pub lines-limit : (c : Circuit) → WellFormed (encode c) → lineCount c ≤ maxLines
+lines-limit c w =
+    omega (arith, limited-encoded c w, right-count (firstGate (c .inputs)) constants (c .starts) (valid-encoded c w .starts-right) (omega arith))
 
 -- ---- the pairs and counts, and the verdicts
 
@@ -106,20 +120,20 @@ module _ (circuit rules sites : List ℕ) (safe : SafeRun circuit rules sites) w
       let s = summaryOf circuit rules sites in
       let v = verdictLines 1 (allVerdicts circuit rules sites) in
       length-append (encode final) (summary s ++ v)
-      ∙ omega (arith, circuit-length final, length-append (summary s) v, summary-length s, verdicts-length 1 (allVerdicts circuit rules sites), safe .verdict-each)
+      ∙ omega (arith, encode-lines-length final, length-append (summary s) v, summary-length s, verdicts-length 1 (allVerdicts circuit rules sites), safe .verdict-each)
 
   module _ (w : WellFormed circuit) (ws : WellFormedSites sites) where
     pub listing-limit : 19 * listed ≤ maxListing
-    listing-limit = let l = limited-encoded final (safe .well-formed) in omega (arith, l, ws .count-limit)
+    listing-limit = omega (arith, lines-limit final (safe .well-formed), ws .count-limit)
 
     small-listing : AllSmall (listingTable circuit rules sites)
     unfolding listingTable
     small-listing =
         let old = limited-decode circuit (w .sized) in
         let new = limited-encoded final (safe .well-formed) in
-        let d₀ : circuitDepth (decode circuit) ≤ 999999 = omega (arith, circuit-depth-le (decode circuit), old) in
+        let d₀ : circuitDepth (decode circuit) ≤ 999999 = omega (arith, circuit-depth-le (decode circuit) (w .starts-right), old) in
         let n₀ : criticalCount (decode circuit) ≤ 999999 = omega (arith, critical-count-le (decode circuit), old) in
-        let d₁ : circuitDepth final ≤ 999999 = omega (arith, circuit-depth-le final, new) in
+        let d₁ : circuitDepth final ≤ 999999 = omega (arith, circuit-depth-le final (valid-encoded final (safe .well-formed) .starts-right), new) in
         let n₁ : criticalCount final ≤ 999999 = omega (arith, critical-count-le final, new) in
         let k : finalState circuit rules sites .kept ≤ 999999 = omega (arith, kept-limit rules sites (startState (decode circuit)) (siteCount sites), ws .count-limit) in
         let v = verdictLines 1 (allVerdicts circuit rules sites) in

@@ -9,12 +9,12 @@ use Rattle.lines.specs.Number.{digits, writeNumber, readNumber}
 use Rattle.lines.specs.Line.{isRow, writeLine, readLine, isLine}
 use Rattle.lines.specs.Text.{isPartial, readText, writeTable}
 use Rattle.lines.specs.Checks.{check, firstFound, answering}
-use Rattle.circuit.specs.Table.{linesOf, encodeLines, encode}
+use Rattle.circuit.specs.Table.{startRun, linesOf, encodeLines, encode}
 use Rattle.circuit.specs.Each.{allGates, countGates}
 use Rattle.circuit.specs.Evaluation.{bitOp}
 use Rattle.circuit.specs.Path.{isAmong, isUsed}
-use Rattle.circuit.specs.Refusal.{refusal}
-use Rattle.circuit.specs.Depth.{depths, largest, circuitDepth}
+use Rattle.circuit.specs.Refusal.{startsAscend, refusal}
+use Rattle.circuit.specs.Depth.{setLevels, startLevels, depths, largest, circuitDepth}
 use Rattle.circuit.specs.ReverseDepth.{markOutputs, raiseOperands, raiseGates, reverseDepths}
 use Rattle.circuit.specs.Critical.{criticalCount}
 use Rattle.circuit.specs.Trim.{rank, keepGates, trim}
@@ -46,7 +46,7 @@ pub marked-examples-hold : MarkedExamplesHold
 unfolding bind
     same allBelow mapBelow appendEach mapRecords allRecords
     digits writeNumber readNumber isRow writeLine readLine isLine isPartial readText writeTable check firstFound answering
-    linesOf encodeLines encode allGates countGates bitOp isAmong isUsed refusal depths largest circuitDepth markOutputs raiseOperands
+    startRun linesOf encodeLines encode startsAscend setLevels startLevels allGates countGates bitOp isAmong isUsed refusal depths largest circuitDepth markOutputs raiseOperands
     raiseGates reverseDepths criticalCount rank keepGates trim measuring
     placeFrom walk walkFromTop allRules rulesRefusal sitesRefusal isSound bindReference bindOperands matchGate matchGates matchRule
     judgement matchAt matchSite judging matching

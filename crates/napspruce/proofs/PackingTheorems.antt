@@ -15,7 +15,7 @@ use Rattle.rules.specs.JudgeCall.{judging}
 use Rattle.rules.specs.MatchCall.{matching}
 use Rattle.rewriting.specs.Run.{finalState}
 use Rattle.rewriting.specs.RewriteCall.{doneValues, rewriting}
-use Rattle.rewriting.proofs.Theorems.{valid-encoded, success-is-safe, success-leaves-table}
+use Rattle.rewriting.proofs.Theorems.{valid-encoded, limited-encoded, success-is-safe, success-leaves-table}
 use Rattle.translator.specs.TranslateCall.{translating}
 use Rattle.napspruce.specs.ListingCall.{maxListing, listingOutcome}
 use Rattle.napspruce.specs.Packing.{packLines, unpackLines, packOne, unpackOne, packPair, unpackPair, packTranslation, unpackTranslation, packRewriting, unpackRewriting}
@@ -61,7 +61,7 @@ head-lines circuit rules sites result work verdicts values e =
     let c = finalState circuit rules sites .circuit in
     let left = success-leaves-table circuit rules sites result work verdicts values e .0 in
     let (w, r, s, v, safe) = success-is-safe circuit rules sites result work verdicts values e in
-    ap lineCount (decode-over c (valid-encoded c (safe .well-formed) .kinds) result d left) ∙ ap (λ (x : List ℕ). getD x 0 0) (sym v)
+    ap lineCount (decode-over c (valid-encoded c (safe .well-formed) .kinds) (limited-encoded c (safe .well-formed) .outputs-some) result d left) ∙ ap (λ (x : List ℕ). getD x 0 0) (sym v)
 
 pub rewrite-unpacks : RewriteUnpacks
 rewrite-unpacks circuit rules sites result work verdicts =

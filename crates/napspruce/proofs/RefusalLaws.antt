@@ -13,7 +13,7 @@ use Rattle.lines.specs.Line.{isLine}
 use Rattle.lines.specs.Refusal.{refused, noTable}
 use Rattle.lines.specs.Checks.{check, firstFound}
 use Rattle.lines.proofs.CheckLaws.{EachFound}
-use Rattle.circuit.specs.Refusal.{headInLimits, linesAsHeadSays, gateKindsOk, closingKindsOk, operandsOk, closingReferencesOk, refusal, circuitTable}
+use Rattle.circuit.specs.Refusal.{headInLimits, linesAsHeadSays, startsOk, gateKindsOk, closingKindsOk, operandsOk, closingReferencesOk, refusal, circuitTable}
 use Rattle.rules.specs.RuleTable.{ruleCount, rulesFrom, nextRule}
 use Rattle.rules.specs.RuleRefusal.{rulesHeadInLimits, ruleInLimits, walk, walkFromTop, rulesKindsOk, rulesReferencesOk, rulesUsesOk, rulesRefusal, rulesTable}
 use Rattle.rules.specs.SiteTable.{sitesHeadInLimits, sitesAsHeadSays, sitesRefusal, sitesTable}
@@ -42,8 +42,9 @@ circuit-known t =
     first-either Known (isPartial 3 t) (omega arith)
     (first-either Known (not (headInLimits t)) (omega arith)
     (first-either Known (not (linesAsHeadSays t)) (omega arith)
+    (first-either Known (not (startsOk t)) (omega arith)
     (first-either Known (not (gateKindsOk t && closingKindsOk t)) (omega arith)
-    (first-either Known (not (operandsOk t && closingReferencesOk t)) (omega arith) (omega arith)))))
+    (first-either Known (not (operandsOk t && closingReferencesOk t)) (omega arith) (omega arith))))))
 
 walk-known : (t : List ℕ) (n p : ℕ) → Known (walk t n p)
 unfolding walk

@@ -16,14 +16,14 @@ EachWithin [] (v ∷ vs) = ⊥
 EachWithin (l ∷ ls) [] = ⊥
 EachWithin (l ∷ ls) (v ∷ vs) = (v ≤ l) × EachWithin ls vs
 
--- 01, Refusals: the last number and the last table
+-- 01, Refusals, and 02, 2026-01: the last number and the last table
 abbrev pub lastRefusal : ℕ
-lastRefusal = 10
+lastRefusal = 11
 
 abbrev pub lastTable : ℕ
 lastTable = 3
 
--- a refusal with a number and a table of 01; or a success's numbers within their limits
+-- a refusal with a number and a table that there are; or a success's numbers within their limits
 abbrev pub Within : (limits : List ℕ) → Result → Type 0
 Within limits (refused number table) = (1 ≤ number) × (number ≤ lastRefusal) × (table ≤ lastTable)
 Within limits (gives values) = EachWithin limits values

@@ -27,7 +27,7 @@ paperValues (Refused r) = refused (r .number) (r .table)
 abbrev pub listingLineLimit : ℕ
 listingLineLimit = maxLines + 3 + maxSites
 
--- its numbers, and 01, refusal 2, its bytes: 53,580
+-- its numbers, and 01, refusal 2, with 02, 2026-01, its bytes: 63,308
 abbrev pub listingNumbers : ℕ
 listingNumbers = 3 * listingLineLimit
 

@@ -7,7 +7,6 @@ use lib.ListN.{length}
 use Rattle.lines.specs.Text.{isPartial, isText, readText, writeTable}
 use Rattle.lines.specs.Refusal.{refused, gives}
 use Rattle.lines.specs.Calls.{over, reading, writing}
-use Rattle.circuit.specs.Circuit.{maxLines}
 use Rattle.circuit.specs.WellFormed.{WellFormed}
 use Rattle.circuit.specs.EvaluateCall.{evaluating}
 use Rattle.circuit.specs.MeasureCall.{measuring}
@@ -20,23 +19,25 @@ use Rattle.translator.specs.TranslateCall.{translating}
 use Rattle.napspruce.specs.Listing.{listingTable, listingText}
 use Rattle.napspruce.specs.ListingCall.{maxListing, textRefusal, listTables, listTexts, listingOutcome}
 use Rattle.napspruce.specs.Printed.{refusalKind, printed}
-use Rattle.napspruce.specs.Front.{maxRulesLines, maxSitesLines, front, cut}
+use Rattle.napspruce.specs.Front.{maxRulesLines, maxSitesLines, front, cut, shortened}
 use Rattle.napspruce.specs.Packing.{pack, unpack, packLines, unpackLines, packOne, unpackOne, packPair, unpackPair, packTranslation, unpackTranslation, packRewriting, unpackRewriting}
 use Rattle.napspruce.specs.Limits.{Within, evaluateLimits, measureLimits, judgeLimits, matchLimits, rewriteLimits, translateLimits, listingLimits}
 
 -- ---- the listing
 
--- The fronts of three tables of whole lines are listed as the tables are, refusals included.
+-- The fronts of three tables of whole lines, that of the circuit being what is read of it, are listed as the tables are, refusals included.
 abbrev pub FrontIsListedAlike : Type 0
 FrontIsListedAlike =
     (circuit rules sites : List ℕ) → isPartial 3 circuit ≡ false → isPartial 3 rules ≡ false → isPartial 3 sites ≡ false
-    → listTables (front maxLines circuit) (front maxRulesLines rules) (front maxSitesLines sites) ≡ listTables circuit rules sites
+    → listTables (shortened circuit) (front maxRulesLines rules) (front maxSitesLines sites) ≡ listTables circuit rules sites
 
--- So three texts of any length in which every line is well written may be cut there: they are listed, or refused, as before.
+-- So three texts of any length in which every line is well written may be cut there: they are listed, or refused, as before. Of the circuit's
+-- text the lines are left out that are not read of its table.
 abbrev pub CutIsListedAlike : Type 0
 CutIsListedAlike =
     (circuit rules sites : List ℕ) (room : ℕ) → textRefusal circuit ≡ 0 → textRefusal rules ≡ 0 → textRefusal sites ≡ 0
-    → listTexts (cut maxLines circuit) (cut maxRulesLines rules) (cut maxSitesLines sites) room ≡ listTexts circuit rules sites room
+    → (cutCircuit : List ℕ) → textRefusal cutCircuit ≡ 0 → readText cutCircuit ≡ shortened (readText circuit)
+    → listTexts cutCircuit (cut maxRulesLines rules) (cut maxSitesLines sites) room ≡ listTexts circuit rules sites room
 
 -- What is listed comes of tables that are not refused, and of a safe run over them.
 abbrev pub ListedIsSafe : Type 0
@@ -44,7 +45,7 @@ ListedIsSafe =
     (circuit rules sites bytes : List ℕ) → listTables circuit rules sites ≡ gives bytes
     → WellFormed circuit × WellFormedRules rules × WellFormedSites sites × (bytes ≡ listingText circuit rules sites) × SafeRun circuit rules sites
 
--- It is a well-written text, from which the listing's numbers are read again, and is at most 53,580 bytes long.
+-- It is a well-written text, from which the listing's numbers are read again, and is at most 63,308 bytes long.
 abbrev pub ListedIsText : Type 0
 ListedIsText =
     (circuit rules sites bytes : List ℕ) → listTables circuit rules sites ≡ gives bytes
@@ -70,7 +71,7 @@ RefusalIsPrinted =
     → listingOutcome circuit rules sites buffer .answer ≡ refused number table
     → printed circuit rules sites ≡ writeTable (refusalKind ∷ number ∷ table ∷ [])
 
--- It has at least one line, and 53,580 bytes at most.
+-- It has at least one line, and 63,308 bytes at most.
 abbrev pub PrintedFits : Type 0
 PrintedFits = (circuit rules sites : List ℕ) → (19 ≤ length (printed circuit rules sites)) × (length (printed circuit rules sites) ≤ maxListing)
 
@@ -130,7 +131,7 @@ MatchUnpacks =
     (circuit rules : List ℕ) (rule gate mask : ℕ)
     → unpack unpackOne (pack packOne (matching circuit rules rule gate mask)) ≡ matching circuit rules rule gate mask
 
--- with the lines, which are those that the head in the result table says
+-- with the lines, which are those of the circuit that the result table says
 abbrev pub RewriteUnpacks : Type 0
 RewriteUnpacks =
     (circuit rules sites result work verdicts : List ℕ)

@@ -13,6 +13,8 @@ ghost use Rattle.napspruce.specs.ListingCall.{paperValues as listedValue
 use crate::numbers::Summary;
 use crate::numbers::write_summary;
 use crate::numbers::write_verdicts;
+use crate::texts::CIRCUIT_LINES;
+use crate::texts::read_circuit;
 use crate::texts::read_front;
 use crate::texts::text_refusal;
 use circuit::CIRCUIT_TABLE;
@@ -33,8 +35,6 @@ use rules::checked::MAX_RULES;
 use rules::checked::MAX_SITES;
 
 // As many lines as are read of a text: one more than its table can have.
-const CIRCUIT_LINES: usize = MAX_LINES + 1;
-
 const RULES_LINES: usize = 1 + (MAX_RULES * (1 + MAX_LEFTS + MAX_RIGHTS + 1)) as usize + 1;
 
 const SITES_LINES: usize = 1 + MAX_SITES as usize + 1;
@@ -131,7 +131,7 @@ fn list_accepted(circuit: &[u8], rules: &[u8], sites: &[u8], listing: &mut [u8])
     let mut circuit_table = [0u32; 3 * CIRCUIT_LINES];
     let mut rules_table = [0u32; 3 * RULES_LINES];
     let mut sites_table = [0u32; 3 * SITES_LINES];
-    let circuit_end = read_front(circuit, &mut circuit_table, CIRCUIT_LINES);
+    let circuit_end = read_circuit(circuit, &mut circuit_table);
     let rules_end = read_front(rules, &mut rules_table, RULES_LINES);
     let sites_end = read_front(sites, &mut sites_table, SITES_LINES);
     list_tables(

@@ -3,18 +3,19 @@ use mathlib.Core.Path.{_≡_, refl, sym, ap, _∙_}
 use mathlib.Core.List.{List, [], _∷_, _++_, map}
 use Prim.Native.Nat.{ℕ, _+_, _-_, _≤_, _<_}
 use native.Mathlib.Omega.{arith}
-use lib.ListN.{length, take, drop, length-append, length-replicate, take-append-drop}
+use lib.ListN.{length, take, drop, length-append, take-append-drop}
 use lib.Seq.{length-take-le}
 use Rattle.lists.specs.Each.{appendEach}
 use Rattle.lists.proofs.Each.{each-length, each-begin}
 use Rattle.lines.specs.Calls.{over}
 use Rattle.circuit.specs.Circuit.{Circuit, firstGate, references}
-use Rattle.circuit.specs.Depth.{depthOp, startDepths, depths}
+use Rattle.circuit.specs.Depth.{depthOp, startLevels, depths}
 use Rattle.circuit.specs.Fold.{gateValue}
 use Rattle.circuit.specs.Table.{inputs, refs, decode}
 use Rattle.circuit.specs.Trim.{renameGate}
 use Rattle.circuit.proofs.FrontLaws.{front-is}
 use Rattle.circuit.proofs.TableLaws.{gates-length}
+use Rattle.circuit.proofs.StartLaws.{start-length}
 use Rattle.rules.specs.Rule.{Rule}
 use Rattle.rewriting.specs.Replacement.{rightRenaming, renaming, gatesBefore, gatesBehind, replace}
 
@@ -47,13 +48,13 @@ replaced-place c u gate b lo hi t e =
 
 pub below-stays : (c : Circuit) (u : Rule) (gate : ℕ) (b : List ℕ) → firstGate (c .inputs) ≤ gate → gate < references c
     → take gate (depths (replace c u gate b)) ≡ take gate (depths c)
-unfolding depths replace
+unfolding depths startLevels replace
 below-stays c u gate b lo hi =
     let k = gate - firstGate (c .inputs) in
-    let start = startDepths (c .inputs) in
+    let start = startLevels c in
     let before = gatesBefore c gate in
     let long : gate ≡ length start + length before
-    = omega (arith, length-take-le k (c .gates) (omega arith), length-replicate {A = ℕ} (firstGate (c .inputs)) 0) in
+    = omega (arith, length-take-le k (c .gates) (omega arith), start-length c) in
     each-alike (gateValue depthOp 0) before
     (map (renameGate (rightRenaming u gate b)) (u .rights) ++ map (renameGate (renaming u gate b)) (gatesBehind c gate))
     (drop k (c .gates)) start gate long

@@ -4,7 +4,6 @@ pub mod DepthLaws
 pub mod PairLaws
 pub mod StepLaws
 pub mod RunLaws
-pub mod FrontLaws
 pub mod RunStateLaws
 pub mod LineLaws
 pub mod CallLaws

@@ -1,33 +1,35 @@
 -- The table of the replaced circuit, line by line, and loops that write it. Assumes nothing.
 use mathlib.Core.Path.{_≡_, refl, sym, ap, ap₂, _∙_}
 use mathlib.Core.Bool.{true, false}
-use mathlib.Core.List.{List, [], _∷_, _++_, map, append-assoc}
+use mathlib.Core.List.{List, [], _∷_, _++_, map, append-nil, append-assoc}
 use Prim.Native.Nat.{ℕ, suc, _+_, _*_, _-_, _≤_, _<_}
 use native.Mathlib.Omega.{arith}
-use lib.ListN.{length, take, drop, getD, length-map, length-drop, drop-of-length-le}
+use lib.ListN.{length, take, drop, getD, length-append, length-map, length-drop, drop-of-length-le}
 use lib.Seq.{sets, slice, take-all, drop-cons, drop-drop, getD-take, length-take-le}
 use borrow.Author.Tests.{ltb-false}
 use Rattle.lists.proofs.Maps.{map-drop}
-use Rattle.lists.proofs.Stores.{sets-append, sets-behind}
+use Rattle.lists.proofs.Stores.{sets-append}
 use Rattle.lists.proofs.Appended.{Appended, appended-none, appended-more, appended-all}
 use Rattle.lines.specs.Calls.{over}
-use Rattle.circuit.specs.Circuit.{Gate, firstGate, noGate, maxGates, maxTable}
-use Rattle.circuit.specs.Table.{inputs, gates, outputs, gatesFrom, linesOf, gateLines, closingLine, decode, encodeLines, encode}
+use Rattle.circuit.specs.Circuit.{Gate, firstGate, noGate, maxInputs, maxGates, maxTable}
+use Rattle.circuit.specs.Table.{inputs, gates, outputs, starts, gatesFrom, linesOf, gateLines, startLine, closingLine, decode, encodeLines, encode}
 use Rattle.circuit.specs.Each.{allGates}
 use Rattle.circuit.specs.Path.{isGate}
 use Rattle.circuit.specs.Refusal.{operandsBelow}
 use Rattle.circuit.specs.Valuation.{Ordered}
 use Rattle.circuit.specs.Trim.{renameGate}
 use Rattle.circuit.specs.WellFormed.{Sized, WellFormed}
-use Rattle.circuit.proofs.TableLaws.{lines-length, output-next, gates-length, outputs-length}
-use Rattle.circuit.proofs.EncodingLaws.{encode-cons, encode-append, encode-length, encode-gates, encode-outputs, encode-long}
+use Rattle.circuit.proofs.TableLaws.{lines-length, starts-length, output-next, gates-length, outputs-length}
+use Rattle.circuit.proofs.EncodingLaws.{encode-cons, encode-append, encode-length, encode-lines-length, encode-starts}
+use Rattle.circuit.proofs.StartLaws.{starts-are-inputs}
+use Rattle.circuit.proofs.BufferLaws.{over-behind, copied-headed}
 use Rattle.circuit.proofs.ValidLaws.{valid-decode}
 use Rattle.rules.specs.Rule.{Rule, maxHoles, maxRights}
 use Rattle.rules.specs.RuleTable.{holesAt, rightsAt, rightFrom, ruleAt}
 use Rattle.rules.specs.WellFormed.{WellFormedRule}
 use Rattle.rules.proofs.RefusalLaws.{right-references-ok}
 use Rattle.rules.proofs.SubstitutionLaws.{gate-from, gate-to}
-use Rattle.rewriting.specs.Replacement.{instanceOf, renumber, rightRenaming, renaming, gatesBefore, gatesBehind, replace}
+use Rattle.rewriting.specs.Replacement.{instanceOf, renumber, frontLines, rightRenaming, renaming, gatesBefore, gatesBehind, replace}
 use Rattle.rewriting.specs.Verdict.{isTooLarge}
 use Rattle.rewriting.proofs.SpliceLaws.{each-left}
 use Rattle.rewriting.proofs.ReplacementLaws.{renumber-low, before-length, behind-length, cut, replace-length}
@@ -85,17 +87,24 @@ rename-same ρ n (g ∷ gs) ok e =
     ap₂ _∷_ (ap₂ (λ l r. record { kind = g .kind; left = l; right = r }) (e (g .left) (omega (arith, ok .0))) (e (g .right) (omega (arith, ok .0))))
     (rename-same ρ (suc n) gs (ok .1) (λ v h. e v (omega arith)))
 
--- Five stores in a row make d begin with `table`: the head, the gates before `gate`, the right gates, `count` of them, the gates behind it, and
--- the closing lines. The last four begin at n, p, q and r; ρ renames all but the right gates.
+-- another table's front, copied, and a head with so many gates over its own
+pub front-stores : (t : List ℕ) → WellFormed t → (n : ℕ) → n ≡ gatesFrom t → (count : ℕ) (d d₁ d₂ : List ℕ) → n ≤ length d
+    → d₁ ≡ over (take n t) d → d₂ ≡ sets d₁ 0 (inputs t ∷ count ∷ outputs t ∷ []) → d₂ ≡ over (frontLines (decode t) count) d
+front-stores t w n e count d d₁ d₂ room e₁ e₂ =
+    copied-headed t d n (3 * starts t) e (omega (arith, w .sized)) [] (omega arith) d₁ d₁ d₂ (inputs t) count (outputs t) e₁ refl e₂
+    ∙ ap₂ (λ o l. over (inputs t ∷ count ∷ o ∷ l) d) (sym (outputs-length t)) (append-nil (take (3 * starts t) (drop 3 t)) ∙ sym (encode-starts t))
+
+-- Five stores in a row make d begin with `table`: the head and the starting lines, the gates before `gate`, the right gates, `count` of them,
+-- the gates behind it, and the closing lines. The last four begin at n, p, q and r; ρ renames all but the right gates.
 abbrev pub FiveStores : (t : List ℕ) (gate : ℕ) (ρ : ℕ → ℕ) (rights : List Gate) (count : ℕ) (table : List ℕ) → Type 0
 FiveStores t gate ρ rights count table =
     (d d₁ d₂ d₃ d₄ d₅ : List ℕ) (n p q r : ℕ)
-    → d₁ ≡ sets d 0 (inputs t ∷ (gates t - 1 + count) ∷ outputs t ∷ [])
+    → d₁ ≡ over (frontLines (decode t) (gates t - 1 + count)) d
     → n ≡ gatesFrom t → d₂ ≡ sets d₁ n (encodeLines (map (renameGate ρ) (slice 0 (gate - firstGate (inputs t)) (gateLines t))))
     → p ≡ n + 3 * (gate - firstGate (inputs t) - 0) → d₃ ≡ sets d₂ p (encodeLines rights)
     → q ≡ p + 3 * count → d₄ ≡ sets d₃ q (encodeLines (map (renameGate ρ) (slice (gate - firstGate (inputs t) + 1) (gates t) (gateLines t))))
     → r ≡ q + 3 * (gates t - (gate - firstGate (inputs t) + 1)) → d₅ ≡ sets d₄ r (encodeLines (map closingLine (map ρ (decode t .outputs))))
-    → d₅ ≡ sets d 0 table
+    → length table ≤ length d → d₅ ≡ over table d
 
 module _ (t : List ℕ) (u : Rule) (gate : ℕ) (b : List ℕ) (g : isGate (decode t) gate ≡ true) where
   lo : firstGate (inputs t) ≤ gate
@@ -128,28 +137,34 @@ module _ (t : List ℕ) (u : Rule) (gate : ℕ) (b : List ℕ) (g : isGate (deco
   abbrev closings : List ℕ
   closings = encodeLines (map closingLine (map (renaming u gate b) (decode t .outputs)))
 
-  -- the head, the lines before the gate, the right gates, the lines behind the gate, and the closing lines
-  replace-lines : encode (replace (decode t) u gate b)
-      ≡ inputs t ∷ (gates t - 1 + length (u .rights)) ∷ outputs t ∷ (beforeLines ++ (rightLines ++ (behindLines ++ closings)))
+  abbrev front : List ℕ
+  front = frontLines (decode t) (gates t - 1 + length (u .rights))
+
+  front-length : length front ≡ gatesFrom t
+  front-length = omega (arith, encode-length (map startLine (decode t .starts)), length-map (decode t .starts) startLine, starts-length t)
+
+  -- the head and the starting lines, the lines before the gate, the right gates, the lines behind the gate, and the closing lines
+  replace-lines : encode (replace (decode t) u gate b) ≡ front ++ (beforeLines ++ (rightLines ++ (behindLines ++ closings)))
   unfolding encode replace
   replace-lines =
       let rights = map (renameGate (rightRenaming u gate b)) (u .rights) in
       let behind = map (renameGate (renaming u gate b)) (gatesBehind (decode t) gate) in
       let n : length (replace (decode t) u gate b .gates) ≡ gates t - 1 + length (u .rights) =
       omega (arith, replace-length (decode t) gate lo hi u b, gates-length t, hi, lo) in
-      let o : length (map (renaming u gate b) (decode t .outputs)) ≡ outputs t = length-map (decode t .outputs) (renaming u gate b) ∙ outputs-length t in
+      let o : length (map (renaming u gate b) (decode t .outputs)) ≡ length (decode t .outputs) = length-map (decode t .outputs) (renaming u gate b) in
+      let ss = encodeLines (map startLine (decode t .starts)) in
       let l : encodeLines (gatesBefore (decode t) gate ++ (rights ++ behind)) ++ closings ≡ beforeLines ++ (rightLines ++ (behindLines ++ closings)) =
       ap (λ x. x ++ closings) (encode-append (gatesBefore (decode t) gate) (rights ++ behind) ∙ ap (λ x. beforeLines ++ x) (encode-append rights behind))
       ∙ append-assoc beforeLines (rightLines ++ behindLines) closings ∙ ap (λ x. beforeLines ++ x) (append-assoc rightLines behindLines closings) in
-      ap₂ (λ x y. inputs t ∷ x ∷ y ∷ (encodeLines (gatesBefore (decode t) gate ++ (rights ++ behind)) ++ closings)) n o
-      ∙ ap (λ x. inputs t ∷ (gates t - 1 + length (u .rights)) ∷ outputs t ∷ x) l
+      ap₂ (λ x y. inputs t ∷ x ∷ y ∷ (ss ++ (encodeLines (gatesBefore (decode t) gate ++ (rights ++ behind)) ++ closings))) n o
+      ∙ ap (λ x. front ++ x) l
 
   stores : WellFormed t → FiveStores t gate (renaming u gate b) (map (renameGate (rightRenaming u gate b)) (u .rights)) (length (u .rights)) (encode (replace (decode t) u gate b))
-  stores w d d₁ d₂ d₃ d₄ d₅ n p q r e₁ hn e₂ hp e₃ hq e₄ hr e₅ =
+  stores w d d₁ d₂ d₃ d₄ d₅ n p q r e₁ hn e₂ hp e₃ hq e₄ hr e₅ room =
       let before = gatesBefore (decode t) gate in
       let behind = gatesBehind (decode t) gate in
       let lb = encode-length before in
-      let kb : 3 + length beforeLines ≡ p = omega (arith, lb, before-length (decode t) gate lo hi) in
+      let kb : gatesFrom t + length beforeLines ≡ p = omega (arith, lb, before-length (decode t) gate lo hi) in
       let lr = encode-length (map (renameGate (rightRenaming u gate b)) (u .rights)) in
       let kr : p + length rightLines ≡ q = omega (arith, lr, length-map (u .rights) (renameGate (rightRenaming u gate b))) in
       let lh = encode-length (map (renameGate (renaming u gate b)) behind) in
@@ -160,15 +175,17 @@ module _ (t : List ℕ) (u : Rule) (gate : ℕ) (b : List ℕ) (g : isGate (deco
       ∙ ap₂ (λ x k. sets x k (behindLines ++ closings)) e₃ (sym kr) ∙ sets-append rightLines (behindLines ++ closings) d₂ p (length rightLines) refl
       ∙ ap₂ (λ x k. sets x k (rightLines ++ (behindLines ++ closings)))
       (e₂ ∙ ap₂ (λ k x. sets d₁ k (encodeLines x)) hn (before-part (valid-decode t w .ordered))) (sym kb)
-      ∙ sets-append beforeLines (rightLines ++ (behindLines ++ closings)) d₁ 3 (length beforeLines) refl
-      ∙ ap (λ x. sets x 3 (beforeLines ++ (rightLines ++ (behindLines ++ closings)))) e₁
-      ∙ ap (sets d 0) (sym replace-lines)
+      ∙ sets-append beforeLines (rightLines ++ (behindLines ++ closings)) d₁ (gatesFrom t) (length beforeLines) refl
+      ∙ over-behind front (beforeLines ++ (rightLines ++ (behindLines ++ closings))) d (gatesFrom t) front-length
+      (omega (arith, room, ap length replace-lines ∙ length-append front (beforeLines ++ (rightLines ++ (behindLines ++ closings))), front-length)) d₁ _ e₁ refl
+      ∙ ap (λ x. over x d) (sym replace-lines)
 
 -- ---- what replacement in table t does, where `base`, `count`, `from` and `closing` were read of the right side of the rule at number p
 
 -- the gate is one, and the replaced circuit is within the limits
 pub record Fits (t : List ℕ) (gate base count : ℕ) : Type 0 where
   pub sized : Sized t
+  pub starts-limit : starts t ≤ maxInputs
   pub gate-lowest : firstGate (inputs t) ≤ gate
   pub gate-limit : gate < firstGate (inputs t) + gates t
   pub gates-limit : gates t + count ≤ maxGates + 1
@@ -182,6 +199,7 @@ module _ (t : List ℕ) (w : WellFormed t) (gate : ℕ) (g : isGate (decode t) g
   replace-fits r =
       record {
         sized = w .sized;
+        starts-limit = omega (arith, starts-are-inputs t w, w .sized);
         gate-lowest = gate-from (decode t) gate g;
         gate-limit = omega (arith, gate-to (decode t) gate g, gates-length t);
         gates-limit = omega (
@@ -228,9 +246,8 @@ module _ (t : List ℕ) (w : WellFormed t) (gate : ℕ) (g : isGate (decode t) g
           lo,
           hi,
           f,
-          encode-long c′,
-          encode-gates c′,
-          encode-outputs c′,
+          encode-lines-length c′,
+          starts-length t,
           replace-length (decode t) gate lo hi u b,
           lines-length (rightsAt rules p) (drop (rightFrom rules p) rules),
           gates-length t,
@@ -245,16 +262,12 @@ module _ (t : List ℕ) (w : WellFormed t) (gate : ℕ) (g : isGate (decode t) g
         let c′ = replace (decode t) u gate b in
         omega (
           arith,
-          encode-long c′,
-          encode-gates c′,
-          encode-outputs c′,
+          encode-lines-length c′,
+          starts-length t,
+          starts-are-inputs t w,
           replace-length (decode t) gate (gate-from (decode t) gate g) (gate-to (decode t) gate g) u b,
           ltb-false (maxGates + 1) (length (gateLines t) + length (u .rights)) small,
           length-map (decode t .outputs) (renaming u gate b),
           outputs-length t,
           w .sized,
         )
-
-    pub replace-over : (d : List ℕ) → maxTable ≤ length d
-        → sets d 0 (encode (replace (decode t) (ruleAt rules p) gate b)) ≡ over (encode (replace (decode t) (ruleAt rules p) gate b)) d
-    replace-over d room = sets-behind [] (encode (replace (decode t) (ruleAt rules p) gate b)) d 0 refl (omega (arith, room, replace-room))

@@ -159,6 +159,7 @@ module _ (c : Circuit) (ok : Valid c) (u : Rule) (w : ValidRule u) (gate mask : 
       let P : ℕ → Gate → Type 0 = λ m g. hasGateKind m g ≡ true in
       let kinds : EachGate P n (gatesBefore c gate ++ gateThere c gate lo hi ∷ gatesBehind c gate) = rw (cut c gate lo hi) at (ok .kinds) in
       record {
+        starts-right = ok .starts-right;
         ordered = splice-ordered splice;
         kinds = splice-each splice P (each-left P n (gatesBefore c gate) _ kinds)
             (each-rename P (rightRenaming u gate b) (firstGate (u .holes)) gate (u .rights) (splice .rights-from) (w .rights-kinds))

@@ -111,6 +111,7 @@ pub record Running (c : Circuit) (s : State) : Type 0 where
   pub limited : Limited (s .circuit)
   pub trimmed : trim (s .circuit) ≡ s .circuit
   pub same-inputs : s .circuit .inputs ≡ c .inputs
+  pub same-starts : s .circuit .starts ≡ c .starts
   pub output-count : length (s .circuit .outputs) ≡ length (c .outputs)
   pub same-outputs : (bytes : List ℕ) → length bytes ≡ c .inputs → evaluate (s .circuit) bytes ≡ evaluate c bytes
   pub kept-bound : s .kept + weight (pairOf (s .circuit)) ≤ weight (pairOf c)
@@ -127,6 +128,10 @@ trim-inputs : (c : Circuit) → trim c .inputs ≡ c .inputs
 unfolding trim
 trim-inputs c = refl
 
+trim-starts : (c : Circuit) → trim c .starts ≡ c .starts
+unfolding trim
+trim-starts c = refl
+
 pub running-start : (c : Circuit) → Valid c → Limited c → Running c (startState c)
 running-start c ok l =
     record {
@@ -134,6 +139,7 @@ running-start c ok l =
       limited = trim-limited c ok l;
       trimmed = trim-trim c ok;
       same-inputs = trim-inputs c;
+      same-starts = trim-starts c;
       output-count = trim-outputs-length c;
       same-outputs = trim-evaluate c ok;
       kept-bound = omega (arith, ap weight (trim-pair c ok));
@@ -152,6 +158,7 @@ module _ (c : Circuit) (rules : List ℕ) (w : WellFormedRules rules) where
         limited = trim-limited d ok l;
         trimmed = trim-trim d ok;
         same-inputs = trim-inputs d ∙ r .same-inputs;
+        same-starts = trim-starts d ∙ r .same-starts;
         output-count = trim-outputs-length d ∙ length-map (s .circuit .outputs) _ ∙ r .output-count;
         same-outputs = λ bytes h.
             trim-evaluate d ok bytes (h ∙ sym (r .same-inputs)) ∙ replaced-evaluate (s .circuit) (r .valid) rules w site m bytes (h ∙ sym (r .same-inputs))

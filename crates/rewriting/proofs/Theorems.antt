@@ -5,8 +5,7 @@ use native.Mathlib.Omega.{arith}
 use lib.ListN.{length, getD, length-map}
 use borrow.Author.Tests.{ltb-false}
 use Rattle.lists.proofs.Below.{below-length, below-element, below-each}
-use Rattle.circuit.specs.Circuit.{Circuit, firstGate}
-use Rattle.circuit.specs.Refusal.{hasGateKind, KnownKinds}
+use Rattle.circuit.specs.Circuit.{Circuit}
 use Rattle.circuit.specs.Table.{inputs, outputs, decode, encode}
 use Rattle.circuit.specs.WellFormed.{WellFormed}
 use Rattle.circuit.specs.Evaluation.{evaluate}
@@ -14,8 +13,7 @@ use Rattle.circuit.specs.Depth.{circuitDepth}
 use Rattle.circuit.specs.Critical.{criticalCount, pairOf}
 use Rattle.circuit.proofs.TableLaws.{outputs-length}
 use Rattle.circuit.proofs.RefusalLaws.{accepted-is-well-formed}
-use Rattle.circuit.proofs.EachLaws.{all-each}
-use Rattle.circuit.proofs.EncodingLaws.{encode-inputs, encode-gate-lines, decode-after-encode}
+use Rattle.circuit.proofs.EncodingLaws.{decode-long}
 use Rattle.circuit.proofs.ValidLaws.{Valid, Limited, valid-decode, limited-decode, well-formed-encode}
 use Rattle.rules.specs.SiteTable.{siteCount, siteAt}
 use Rattle.rules.proofs.RefusalLaws.{accepted-rules-are-well-formed}
@@ -35,11 +33,8 @@ use Rattle.rewriting.proofs.CallLaws.{rewriting-given}
 
 -- a circuit whose table is well formed
 module _ (c : Circuit) (w : WellFormed (encode c)) where
-  known : KnownKinds c
-  known = all-each hasGateKind (firstGate (c .inputs)) (c .gates) (rw (encode-inputs c, encode-gate-lines c) at (w .gate-kinds))
-
   pub decode-encoded : decode (encode c) ≡ c
-  decode-encoded = decode-after-encode c known
+  decode-encoded = decode-long c (w .sized .long)
 
   pub valid-encoded : Valid c
   valid-encoded = rw decode-encoded at (valid-decode (encode c) w)
@@ -52,6 +47,7 @@ module _ (c : Circuit) (w : WellFormed (encode c)) where
 pub replacement-counts : ReplacementCounts
 unfolding replace
 replacement-counts c u gate b g = (
+  refl,
   refl,
   length-map (c .outputs) (renaming u gate b),
   replace-length c gate (gate-from c gate g) (gate-to c gate g) u b,
@@ -93,6 +89,7 @@ run-is-safe circuit rules sites w r =
       trimmed = trim-encode (finalState circuit rules sites .circuit) (run .valid .kinds) ∙ ap encode (run .trimmed);
       well-formed = running-well-formed c (finalState circuit rules sites) run;
       same-inputs = run .same-inputs;
+      same-starts = run .same-starts;
       output-count = run .output-count ∙ outputs-length circuit;
       kept-counts = kept-zeros rules sites start n ∙ omega arith;
       kept-bound = run .kept-bound;

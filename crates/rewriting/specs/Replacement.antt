@@ -1,12 +1,12 @@
 -- 01, Sites, 9 to 11: replacement of the site's gate by a rule's right side, by the bindings of the match. The trim that follows is not
 -- part of it.
 use Prim.Native.Nat.{ℕ, _+_, _-_, _<_}
-use mathlib.Core.List.{List, _++_, map}
+use mathlib.Core.List.{List, _∷_, _++_, map}
 use lib.Dec.{eqb, ltb}
 use lib.ListN.{length, take, drop, getD}
 use Rattle.lists.specs.First.{first}
 use Rattle.circuit.specs.Circuit.{Gate, Circuit, firstGate}
-use Rattle.circuit.specs.Table.{closingLine, encodeLines}
+use Rattle.circuit.specs.Table.{startLine, closingLine, encodeLines}
 use Rattle.circuit.specs.Trim.{renameGate}
 use Rattle.rules.specs.Rule.{Rule}
 use Rattle.rules.specs.Match.{boundTo}
@@ -38,16 +38,22 @@ gatesBefore c gate = take (gate - firstGate (c .inputs)) (c .gates)
 abbrev pub gatesBehind : Circuit → (gate : ℕ) → List Gate
 gatesBehind c gate = drop (gate - firstGate (c .inputs) + 1) (c .gates)
 
--- 01, Sites, 9 to 11: the right gates in the place of the site's gate, and each use of a reference, outputs included, renamed
+-- 01, Sites, 9 to 11: the right gates in the place of the site's gate, and each use of a reference, outputs included, renamed. The starting
+-- lines stay (02, 2026-01).
 unfoldable pub replace : Circuit → Rule → (gate : ℕ) (bindings : List ℕ) → Circuit
 replace c u gate b =
     record {
       inputs = c .inputs;
+      starts = c .starts;
       gates =
           gatesBefore c gate
           ++ (map (renameGate (rightRenaming u gate b)) (u .rights) ++ map (renameGate (renaming u gate b)) (gatesBehind c gate));
       outputs = map (renaming u gate b) (c .outputs);
     }
+
+-- the head of a circuit that has `gates` gates but is else as c, and c's starting lines
+abbrev pub frontLines : Circuit → (gates : ℕ) → List ℕ
+frontLines c gates = c .inputs ∷ gates ∷ length (c .outputs) ∷ encodeLines (map startLine (c .starts))
 
 -- the table's lines of some right gates, of some of the circuit's gates, and of some outputs, so renamed
 abbrev pub instanceLines : (base gate : ℕ) (bindings : List ℕ) → List Gate → List ℕ

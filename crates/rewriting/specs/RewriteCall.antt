@@ -54,7 +54,7 @@ doneValues circuit rules sites =
     ∷ circuitDepth (handedBack circuit rules sites) ∷ criticalCount (handedBack circuit rules sites)
     ∷ finalState circuit rules sites .kept ∷ []
 
--- 01, Refusals, 2: of tables of whole lines, 4 to 7 of the circuit; 4 to 8 of the rules; 4 and 5 of the sites.
+-- 01, Refusals, 2, and 02, 2026-01: of tables of whole lines, 4, 5, 11, 6, 7 of the circuit; 4 to 8 of the rules; 4 and 5 of the sites.
 abbrev pub tableChecks : (circuit rules sites : List ℕ) → List Refusal
 tableChecks circuit rules sites =
     found (refusal circuit) circuitTable

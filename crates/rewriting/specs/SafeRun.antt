@@ -32,10 +32,11 @@ pub record SafeRun (circuit rules sites : List ℕ) : Type 0 where
   -- the circuit handed back gives the same outputs, in the same order, as the circuit first read
   pub same-outputs : (bytes : List ℕ) → length bytes ≡ inputs circuit
       → evaluate (handedBack circuit rules sites) bytes ≡ evaluate (decode circuit) bytes
-  -- it is trimmed and its table well formed, with as many inputs and outputs
+  -- it is trimmed and its table well formed, with as many inputs and outputs, and with the starting lines of the circuit first read
   pub trimmed : trimOf (encode (handedBack circuit rules sites)) ≡ encode (handedBack circuit rules sites)
   pub well-formed : WellFormed (encode (handedBack circuit rules sites))
   pub same-inputs : handedBack circuit rules sites .inputs ≡ inputs circuit
+  pub same-starts : handedBack circuit rules sites .starts ≡ decode circuit .starts
   pub output-count : length (handedBack circuit rules sites .outputs) ≡ outputs circuit
   -- kept is the number of zero verdicts, and each of them is paid for by the pair: kept + 2,049 × new D + new N is at most 2,049 × old D + old N
   pub kept-counts : finalState circuit rules sites .kept ≡ zeros (allVerdicts circuit rules sites)

@@ -32,11 +32,12 @@ use Rattle.rewriting.specs.RewriteCall.{doneValues, rewriting}
 
 -- ---- replacement
 
--- The replaced circuit has as many inputs and outputs, and the right gates in place of one gate.
+-- The replaced circuit has as many inputs and outputs, the same starting lines, and the right gates in place of one gate.
 abbrev pub ReplacementCounts : Type 0
 ReplacementCounts =
     (c : Circuit) (u : Rule) (gate : ℕ) (b : List ℕ) → isGate c gate ≡ true
     → (replace c u gate b .inputs ≡ c .inputs)
+    × (replace c u gate b .starts ≡ c .starts)
     × (length (replace c u gate b .outputs) ≡ length (c .outputs))
     × (length (replace c u gate b .gates) + 1 ≡ length (c .gates) + length (u .rights))
 

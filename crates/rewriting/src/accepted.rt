@@ -12,10 +12,10 @@ ghost use Rattle.rules.specs.WellFormed.{WellFormedRules, WellFormedSites};
 ghost use Rattle.rewriting.specs.RewriteCall.{paperValues as rewrittenValues, areShort, doneValues};
 ghost use Rattle.rewriting.specs.Run.{handedBack, allVerdicts};
 use crate::Rewritten;
-use crate::copying::copy_over;
 use crate::run::Run;
 use crate::run::run_sites;
 use circuit::checked::MAX_REFERENCES;
+use circuit::checked::copy_over;
 use circuit::checked::pair_with_reverse_depths;
 
 // A circuit's table over the front of `result`. What is given back is how many lines it has.

@@ -4,7 +4,6 @@ ghost use Rattle.lines.specs.Checks.{firstFound};
 ghost use Rattle.rewriting.specs.RewriteCall.{paperValues as rewrittenValues, outcomeOf, areShort, rewriteChecks, rewriting};
 
 mod accepted;
-mod copying;
 mod replacing;
 mod run;
 

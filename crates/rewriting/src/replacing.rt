@@ -14,11 +14,12 @@ ghost use Rattle.circuit.specs.WellFormed.{WellFormed};
 ghost use Rattle.rules.specs.Rule.{maxHoles, maxRights};
 ghost use Rattle.rules.specs.RuleTable.{ruleAt};
 ghost use Rattle.rules.specs.WellFormed.{WellFormedRule};
-ghost use Rattle.rewriting.specs.Replacement.{instanceOf, renumber, instanceLines, renumberedLines, renumberedClosings, replace, AllBound, BoundBelow};
+ghost use Rattle.rewriting.specs.Replacement.{instanceOf, renumber, frontLines, instanceLines, renumberedLines, renumberedClosings, replace, AllBound, BoundBelow};
 ghost use Rattle.rewriting.specs.Verdict.{isTooLarge};
 use circuit::checked::CLOSING;
 use circuit::checked::CONSTANTS;
 use circuit::checked::closings_from;
+use circuit::checked::copy_over;
 use circuit::checked::gate_line;
 use circuit::checked::gates_from;
 use circuit::checked::output_reference;
@@ -60,6 +61,17 @@ fn renumber(s: Renaming, v: u32) -> u32
         return s.closing;
     }
     v - 1 + s.count
+}
+
+// The head, for so many gates, and the starting lines, as they are, up to where the gate lines begin.
+fn write_front(c: &[u32], lines: usize, gates: u32, out: &mut [u32])
+    requires { ⌜ WellFormed (now c) ⌝ }
+    requires { ⌜ lines ≡ gatesFrom (now c) ⌝ }
+    requires { ⌜ lines ≤ length (now out) ⌝ }
+    ensures { λ _. ⌜ now (out .exit) ≡ over (frontLines (decode (now (c .entry))) gates) (now (out .entry)) ⌝ }
+{
+    copy_over(&c[..lines], out);
+    write_row(out, 0, c[0], gates, c[2]);
 }
 
 // Gates `from` up to `to` of the circuit, whose gate lines begin at `lines`, renumbered, from `at` on. The result is the place behind them.
@@ -165,7 +177,7 @@ pub fn replace(
         count: side.count,
     };
     let gates = c[1];
-    write_row(out, 0, c[0], gates - 1 + side.count, c[2]);
+    write_front(c, lines, gates - 1 + side.count, out);
     let before = (gate - (c[0] + CONSTANTS)) as usize;
     let rights_at = write_gates(c, lines, 0, before, s, out, lines);
     let behind_at = write_rights(t, side, gate, b, out, rights_at);

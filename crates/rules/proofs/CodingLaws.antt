@@ -14,8 +14,8 @@ use Rattle.circuit.specs.Circuit.{Gate, closingKind}
 use Rattle.circuit.specs.Table.{lineAt, linesOf, closingLine, encodeLines}
 use Rattle.circuit.specs.Each.{allGates}
 use Rattle.circuit.specs.Refusal.{hasGateKind, isClosing}
-use Rattle.circuit.proofs.TableLaws.{line-drop, lines-length}
-use Rattle.circuit.proofs.EncodingLaws.{encode-append, encode-length, lines-encode, encode-lines, headed}
+use Rattle.circuit.proofs.TableLaws.{headed, line-drop, lines-length}
+use Rattle.circuit.proofs.EncodingLaws.{encode-append, encode-length, lines-encode, encode-lines}
 use Rattle.rules.specs.Rule.{Rule}
 use Rattle.rules.specs.RuleTable.{ruleCount, rulesFrom, holesAt, leftsAt, rightsAt, leftFrom, rightFrom, closingFrom, nextRule, ruleAt, placeFrom, rulesAt, headLine, ruleLines, rulesLines, encodeRules}
 use Rattle.rules.specs.RuleRefusal.{walk, ruleKindsOk, allRules}

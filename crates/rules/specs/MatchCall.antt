@@ -18,7 +18,7 @@ abbrev pub paperValues : Matched → Result
 paperValues (Verdict v) = gives (v ∷ [])
 paperValues (Refused r) = refused (r .number) (r .table)
 
--- 01, Refusals, 2: 1 for each table; 4 to 7 of the circuit; 4 to 8 of the rules.
+-- 01, Refusals, 2, and 02, 2026-01: 1 for each table; 4, 5, 11, 6, 7 of the circuit; 4 to 8 of the rules.
 abbrev pub matchChecks : (circuit rules : List ℕ) → List Refusal
 matchChecks circuit rules =
     check (isPartial 3 circuit) 1 circuitTable

@@ -1,10 +1,10 @@
 -- Demand 3: the rewriter and the translator together. Assumes nothing.
-use mathlib.Core.Path.{_≡_, refl, sym, ap, _∙_}
+use mathlib.Core.Path.{_≡_, refl, sym, ap, ap₂, _∙_}
 use mathlib.Core.Bool.{true, false, not}
 use mathlib.Core.List.{List}
 use Prim.Native.Nat.{ℕ, _*_, _≤_}
 use native.Mathlib.Omega.{arith}
-use lib.ListN.{length, take, getD, drop}
+use lib.ListN.{length, take, getD, drop, replicate}
 use borrow.Author.Tests.{le-leb, le-ltb}
 use Rattle.lists.proofs.Tests.{both}
 use Rattle.lines.specs.Text.{isPartial}
@@ -14,14 +14,14 @@ use Rattle.lines.specs.Calls.{over}
 use Rattle.lines.proofs.CheckLaws.{check-passes, Passed}
 use lib.Seq.{take-append-seam}
 use Rattle.rewriting.specs.Run.{finalState, handedBack, allVerdicts}
-use Rattle.circuit.specs.Circuit.{Circuit, lineCount}
+use Rattle.circuit.specs.Circuit.{Circuit, firstGate, lineCount}
 use Rattle.circuit.specs.Table.{inputs, decode, encode}
-use Rattle.circuit.specs.Evaluation.{evaluate}
-use Rattle.circuit.specs.Depth.{circuitDepth}
+use Rattle.circuit.specs.Evaluation.{startBits, evaluate}
+use Rattle.circuit.specs.Depth.{setLevels, startLevels, circuitDepth}
 use Rattle.circuit.specs.Trim.{trim}
 use Rattle.circuit.specs.Refusal.{refusal}
 use Rattle.circuit.proofs.RefusalLaws.{whole, accepted-is-well-formed}
-use Rattle.circuit.proofs.EncodingLaws.{encode-gates, encode-outputs, encode-long}
+use Rattle.circuit.proofs.EncodingLaws.{encode-lines-length}
 use Rattle.circuit.proofs.FrontLaws.{front-is}
 use Rattle.circuit.proofs.TrimTheorems.{decode-trim}
 use Rattle.rules.proofs.RefusalLaws.{accepted-rules-are-well-formed}
@@ -29,8 +29,8 @@ use Rattle.rules.proofs.SiteLaws.{accepted-sites-are-well-formed}
 use Rattle.rewriting.specs.RewriteCall.{doneValues, rewriting}
 use Rattle.rewriting.specs.SafeRun.{SafeRun}
 use Rattle.rewriting.proofs.Theorems.{decode-encoded, run-is-safe, success-is-safe, success-leaves-table, success-is-bounded}
-use Rattle.translator.specs.Machine.{maxRegisters}
-use Rattle.translator.specs.LeveledBit.{runOn}
+use Rattle.translator.specs.Machine.{maxRegisters, run}
+use Rattle.translator.specs.LeveledBit.{leveledOp, atLevels, startLeveled, runOn}
 use Rattle.translator.specs.Need.{need}
 use Rattle.translator.specs.Program.{program, encodeProgram}
 use Rattle.translator.specs.TranslateCall.{isLimit, translateChecks}
@@ -52,6 +52,12 @@ module _ (circuit rules sites : List ℕ) (safe : SafeRun circuit rules sites) w
   back-inputs : inputs (encode back) ≡ inputs circuit
   back-inputs = ap (λ (x : Circuit). x .inputs) (decode-encoded back (safe .well-formed)) ∙ safe .same-inputs
 
+  -- inputs are loaded at the levels of the circuit first read
+  same-loads : (bytes : List ℕ) → startLeveled (decode circuit) bytes ≡ startLeveled back bytes
+  unfolding startLevels
+  same-loads bytes =
+      ap₂ (λ n ss. atLevels (startBits bytes) (setLevels ss (replicate (firstGate n) 0))) (sym (safe .same-inputs)) (sym (safe .same-starts))
+
   delivered : (bytes : List ℕ) → length bytes ≡ inputs circuit → SafeDelivery circuit rules sites bytes
   delivered bytes h =
       record {
@@ -59,7 +65,7 @@ module _ (circuit rules sites : List ℕ) (safe : SafeRun circuit rules sites) w
         program-runs = λ limit low high enough.
             let (es, run, bits, levels, top) = program-emits-outputs (encode back) (safe .well-formed) bytes (h ∙ sym back-inputs) limit (rw fixed enough) in (
               es,
-              ap (λ c. runOn bytes limit (program c)) (sym fixed) ∙ run,
+              ap₂ (λ c d. runOn c bytes limit (program d)) (sym (decode-encoded back (safe .well-formed))) (sym fixed) ∙ run,
               bits ∙ ap (λ c. evaluate c bytes) (decode-encoded back (safe .well-formed)) ∙ safe .same-outputs bytes h,
               top ∙ ap circuitDepth (decode-encoded back (safe .well-formed)),
             );
@@ -73,7 +79,7 @@ delivery-is-safe circuit rules sites a b c bytes h =
 
 -- a table has three numbers a line
 lines-long : (c : Circuit) → 3 * lineCount c ≡ length (encode c)
-lines-long c = omega (arith, encode-long c, encode-gates c, encode-outputs c)
+lines-long c = sym (encode-lines-length c)
 
 within : (limit : ℕ) → 1 ≤ limit → limit ≤ maxRegisters → isLimit limit ≡ true
 within limit low high = both (le-leb 1 limit low) (le-leb limit maxRegisters high)
@@ -95,6 +101,7 @@ calls-deliver circuit rules sites result work verdicts values e bytes h =
     let whole-table : isPartial 3 t ≡ false = whole t (safe .well-formed .sized) in
     let accepted : refusal t ≡ 0 = accepted-is-well-formed t .1 (safe .well-formed) in
     let same : trim (decode t) ≡ c = fixed circuit rules sites safe in
+    let loads : startLeveled (decode circuit) bytes ≡ startLeveled c bytes = same-loads circuit rules sites safe bytes in
     let p = program (trim (decode t)) in (
       delivery,
       ap (λ n. take (3 * n) (rewriting circuit rules sites result work verdicts .buffers .result)) lines
@@ -112,7 +119,7 @@ calls-deliver circuit rules sites result work verdicts values e bytes h =
             λ enough.
                 let done = needs-no-more (trim (decode t)) limit buffer (need c) (ap need (sym same)) enough _ _ refl refl ∙ translation-accepted t limit buffer passed in
                 let read = instructions-after-encode p (drop (length (encodeProgram p)) buffer) ∙ ap program same in
-                let (es, run, bits, top) = delivery .program-runs limit low high enough in
-                (_, _, es, sym done, ap (runOn bytes limit) read ∙ run, bits, top ∙ sym depth),
+                let (es, runs, bits, top) = delivery .program-runs limit low high enough in
+                (_, _, es, sym done, ap₂ (λ d is. run d leveledOp limit is) loads read ∙ runs, bits, top ∙ sym depth),
           ),
     )

@@ -2,22 +2,23 @@
 use mathlib.Core.Path.{_≡_, refl, sym, ap, ap₂, _∙_}
 use mathlib.Core.List.{List, [], _∷_, _++_, map, append-assoc}
 use mathlib.Core.Option.{Option, none, some, bind-eq-some-iff}
-use Prim.Native.Nat.{ℕ, suc}
-use native.Mathlib.Nat.{le-trans}
+use Prim.Native.Nat.{ℕ, zero, suc, _+_, _<_}
+use native.Mathlib.Nat.{le-trans, not-suc-le-zero, le-of-suc-le-suc}
 use native.Mathlib.Omega.{arith}
 use lib.ListN.{length, drop, getD, replicate, length-replicate}
 use lib.Seq.{drop-cons, drop-length, take-length}
-use Rattle.circuit.specs.Circuit.{firstGate, references, noGate}
-use Rattle.circuit.specs.Evaluation.{bitOp, bitOf}
+use Rattle.circuit.specs.Circuit.{constants, firstGate, references, noGate}
+use Rattle.circuit.specs.Evaluation.{bitOp, bitOf, startBits}
 use Rattle.circuit.specs.Table.{inputs, decode}
-use Rattle.circuit.specs.Depth.{largest, circuitDepth}
+use Rattle.circuit.specs.Depth.{startLevels, largest, circuitDepth}
 use Rattle.circuit.specs.Path.{isAmong, isOutput}
 use Rattle.circuit.specs.Trim.{trim}
 use Rattle.circuit.proofs.RefusalLaws.{accepted-is-well-formed}
+use Rattle.circuit.proofs.StartLaws.{starts-at-level, starts-are-right}
 use Rattle.circuit.proofs.ValidLaws.{valid-decode, limited-decode}
 use Rattle.circuit.proofs.TrimLaws.{trim-limited, trim-outputs}
 use Rattle.translator.specs.Machine.{emptyMachine, runFrom, run}
-use Rattle.translator.specs.LeveledBit.{LeveledBit, leveledOp, atLevelZero, startLeveled, runOn}
+use Rattle.translator.specs.LeveledBit.{LeveledBit, leveledOp, atLevel, startLeveled, runOn}
 use Rattle.translator.specs.Need.{need}
 use Rattle.translator.specs.Actions.{operandLoads, actionsFrom}
 use Rattle.translator.specs.Program.{program, encodeProgram, instructionsOf}
@@ -33,7 +34,7 @@ use Rattle.translator.proofs.ActionLaws.{end-is-program}
 use Rattle.translator.proofs.LoadLaws.{operations-actions, actions-split, output-operations, operand-occurrences, output-occurrences, actions-occurrences}
 use Rattle.translator.proofs.ShapeLaws.{program-shape, program-length, program-limit, instructions-encode}
 use Rattle.translator.proofs.RegisterLaws.{run-within}
-use Rattle.translator.proofs.LeveledLaws.{leveled-length, leveledOutputs, emitted-bits, emitted-levels}
+use Rattle.translator.proofs.LeveledLaws.{levels-at, bits-long, starts-long, leveled-length, leveledOutputs, emitted-bits, emitted-levels}
 use Rattle.translator.proofs.MomentLaws.{after-code}
 use Rattle.translator.proofs.HoldingLaws.{holding-before, holding-after, holding-end}
 use Rattle.translator.proofs.LastUseLaws.{used-from}
@@ -51,13 +52,40 @@ instruction-does A start op m = (
 pub instruction-faults : InstructionFaults
 instruction-faults A start op m o x y z = (executes-fault start op m o x y z, fault-executes start op m o x y z)
 
+-- what is loaded, by the place of an input's byte
+byte-at : (bytes : List ℕ) (i : ℕ) → i < length bytes → getD (startBits bytes) (constants + i) 0 ≡ bitOf (getD bytes i 0)
+byte-at bytes i h = ap (λ k. getD (startBits bytes) k 0) (suc-suc i) ∙ at bytes i h
+  where
+    suc-suc : (i : ℕ) → constants + i ≡ suc (suc i)
+    suc-suc i = omega arith
+
+    at : (bytes : List ℕ) (i : ℕ) → i < length bytes → getD (map bitOf bytes) i 0 ≡ bitOf (getD bytes i 0)
+    at [] i h = absurd (not-suc-le-zero h)
+    at (b ∷ bs) zero h = refl
+    at (b ∷ bs) (suc i) h = at bs i (le-of-suc-le-suc h)
+
 pub bits-and-levels : BitsAndLevels
 unfolding bitOp
-bits-and-levels = (λ a b. refl, λ a b. refl, λ bytes. ap (λ l. atLevelZero 0 ∷ atLevelZero 1 ∷ l) (go bytes))
-  where
-    go : (bytes : List ℕ) → map atLevelZero (map bitOf bytes) ≡ map (λ byte. atLevelZero (bitOf byte)) bytes
-    go [] = refl
-    go (byte ∷ bytes) = ap (λ l. atLevelZero (bitOf byte) ∷ l) (go bytes)
+bits-and-levels = (
+  λ a b. refl,
+  λ a b. refl,
+  λ c bytes e right.
+      let at = levels-at (startBits bytes) (startLevels c) (starts-long c bytes e) in
+      let n = bits-long c bytes e in
+      let (_, listed, other) = starts-at-level c right in
+      let constant : (v : ℕ) → v < constants → getD (startLevels c) v 0 ≡ 0 =
+      λ v h. other v (λ i l q. let z : ⊥ = omega (arith, starts-are-right c .0 right .names-input i l .0) in z) in (
+        leveled-length c bytes e,
+        at 0 (omega (arith, n)) ∙ ap (λ l. some (atLevel 0 l)) (constant 0 (omega arith)),
+        at 1 (omega (arith, n)) ∙ ap (λ l. some (atLevel 1 l)) (constant 1 (omega arith)),
+        λ i h. (
+          getD (startLevels c) (constants + i) 0,
+          at (constants + i) (omega (arith, n)) ∙ ap (λ b. some (atLevel b (getD (startLevels c) (constants + i) 0))) (byte-at bytes i (omega arith)),
+          λ k l q. ap (λ v. getD (startLevels c) v 0) (sym q) ∙ listed k l,
+          other (constants + i),
+        ),
+      ),
+)
 
 pub run-within-limit : RunWithinLimit
 unfolding run
@@ -92,11 +120,10 @@ program-computes A op z start t w l limit h =
 pub program-emits-outputs : ProgramEmitsOutputs
 unfolding circuitDepth
 program-emits-outputs t w bytes l limit h =
-    let s = leveled-length bytes ∙ ap firstGate l in
     let levels = emitted-levels (decode t) bytes l in (
       leveledOutputs (decode t) bytes,
-      program-computes LeveledBit leveledOp (atLevelZero 0) (startLeveled bytes) t w s limit h,
-      emitted-bits (decode t) bytes,
+      program-computes LeveledBit leveledOp (atLevel 0 0) (startLeveled (decode t) bytes) t w (leveled-length (decode t) bytes l) limit h,
+      emitted-bits (decode t) bytes l,
       levels,
       ap largest levels,
     )
@@ -114,7 +141,7 @@ registers-within-need t w d h =
     let c = trim (decode t) in
     let bytes = replicate {A = ℕ} (inputs t) 0 in
     let (es, e, bits, levels, top) = program-emits-outputs t w bytes (length-replicate {A = ℕ} (inputs t) 0) (need c) (omega arith) in
-    run-within-limit LeveledBit (startLeveled bytes) leveledOp (need c) (program c) es e d h
+    run-within-limit LeveledBit (startLeveled (decode t) bytes) leveledOp (need c) (program c) es e d h
 
 -- ---- the actions
 
@@ -182,5 +209,5 @@ translation-runs t limit buffer after count n e =
       x .needed,
       λ bytes l.
           let (es, r, bits, levels, top) = program-emits-outputs t w bytes l limit (x .enough) in
-          (es, ap (runOn bytes limit) read ∙ r, bits, top),
+          (es, ap (runOn (decode t) bytes limit) read ∙ r, bits, top),
     )

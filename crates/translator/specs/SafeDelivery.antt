@@ -22,9 +22,10 @@ pub record SafeDelivery (circuit rules sites bytes : List ℕ) : Type 0 where
   -- paid for by the pair, D weighing 2,049 times as much as N (`kept-counts`, `kept-bound`).
   pub run : SafeRun circuit rules sites
   -- And the translator: with every limit from 1 to 1,024 that is not below the need, the program of the circuit handed back runs without a
-  -- fault and emits just those outputs, as bits, in that order; the highest level emitted is the new D.
+  -- fault and emits just those outputs, as bits, in that order; the highest level emitted is the new D. Inputs are loaded at the starting
+  -- levels of the circuit handed back, which are those of the circuit first read (`same-starts`).
   pub program-runs : (limit : ℕ) → 1 ≤ limit → limit ≤ maxRegisters → need (handedBack circuit rules sites) ≤ limit
       → (emitted : List LeveledBit)
-      × (runOn bytes limit (program (handedBack circuit rules sites)) ≡ some emitted)
+      × (runOn (handedBack circuit rules sites) bytes limit (program (handedBack circuit rules sites)) ≡ some emitted)
       × (map (λ b. b .bit) emitted ≡ evaluate (decode circuit) bytes)
       × (largest (map (λ b. b .level) emitted) ≡ circuitDepth (handedBack circuit rules sites))

@@ -11,9 +11,9 @@ use lib.Dec.{eqb, ltb}
 use lib.ListN.{length, take, getD, set, replicate, getElem?}
 use Rattle.lists.specs.First.{first}
 use Rattle.lines.specs.Refusal.{refused, gives, noTable, leaving}
-use Rattle.circuit.specs.Circuit.{Circuit, xorKind, andKind, firstGate, noGate}
+use Rattle.circuit.specs.Circuit.{Circuit, xorKind, andKind, constants, firstGate, noGate, noStart}
 use Rattle.circuit.specs.Table.{inputs, decode, encode}
-use Rattle.circuit.specs.Refusal.{refusal}
+use Rattle.circuit.specs.Refusal.{startsRight, refusal}
 use Rattle.circuit.specs.WellFormed.{WellFormed}
 use Rattle.circuit.specs.Fold.{foldGates, atOutputs}
 use Rattle.circuit.specs.Evaluation.{evaluate}
@@ -26,7 +26,7 @@ use Rattle.rewriting.specs.Run.{zeros, handedBack, allVerdicts}
 use Rattle.rewriting.specs.RewriteCall.{rewriting}
 use Rattle.translator.specs.Machine.{Instruction, emitOpcode, loadOpcode, emitting, Machine, maxRegisters, execute, run}
 use Rattle.translator.specs.Fault.{numbers, Operates, Holds, Fault}
-use Rattle.translator.specs.LeveledBit.{LeveledBit, leveledOp, atLevelZero, startLeveled, runOn}
+use Rattle.translator.specs.LeveledBit.{LeveledBit, leveledOp, atLevel, startLeveled, runOn}
 use Rattle.translator.specs.LiveRange.{isUsedFrom, isConstantOrInput, isHeldBefore, isHeldAfter, isHeldAtEnd}
 use Rattle.translator.specs.Need.{countBelow, need}
 use Rattle.translator.specs.Actions.{Action, operate, isUnloaded, operandLoads, outputLoads, actions, loadsOf, operationsOf}
@@ -59,13 +59,21 @@ InstructionFaults =
     (A : Type 0) (start : List A) (op : ℕ → A → A → A) (m : Machine A) (o x y z : ℕ)
     → (execute start op (numbers o x y z) m ≡ none) ↔ Fault start m o x y z
 
--- 01, Register program, 2 and 5, of bits and levels: XOR has the larger level, AND that plus 1; what is loaded is at level 0, the constants' bits
--- are 0 and 1, and an input's is that of its byte.
+-- 01, Register program, 2 and 5, of bits and levels: XOR has the larger level, AND that plus 1; the constants' bits are 0 and 1, at level 0, and
+-- an input's is that of its byte, at the level that a starting line gives for it, else at 0 (02, 2026-01). Nothing else is loaded.
 abbrev pub BitsAndLevels : Type 0
 BitsAndLevels =
     ((a b : LeveledBit) → leveledOp xorKind a b ≡ record { bit = bitXor (a .bit) (b .bit); level = max (a .level) (b .level) })
     × ((a b : LeveledBit) → leveledOp andKind a b ≡ record { bit = bitAnd (a .bit) (b .bit); level = max (a .level) (b .level) + 1 })
-    × ((bytes : List ℕ) → startLeveled bytes ≡ atLevelZero 0 ∷ atLevelZero 1 ∷ map (λ byte. atLevelZero (first (eqb byte 0) 0 1)) bytes)
+    × ((c : Circuit) (bytes : List ℕ) → length bytes ≡ c .inputs → startsRight c ≡ true
+    → (length (startLeveled c bytes) ≡ firstGate (c .inputs))
+    × (getElem? (startLeveled c bytes) 0 ≡ some (atLevel 0 0))
+    × (getElem? (startLeveled c bytes) 1 ≡ some (atLevel 1 0))
+    × ((i : ℕ) → i < c .inputs
+    → (level : ℕ)
+    × (getElem? (startLeveled c bytes) (constants + i) ≡ some (atLevel (first (eqb (getD bytes i 0) 0) 0 1) level))
+    × ((k : ℕ) → k < length (c .starts) → getD (c .starts) k noStart .input ≡ constants + i → level ≡ getD (c .starts) k noStart .level)
+    × (((k : ℕ) → k < length (c .starts) → getD (c .starts) k noStart .input ≡ constants + i → ⊥) → level ≡ 0)))
 
 -- A run that ends without a fault has read and written only registers below the limit.
 abbrev pub RunWithinLimit : Type 1
@@ -106,7 +114,7 @@ abbrev pub ProgramEmitsOutputs : Type 0
 ProgramEmitsOutputs =
     (t : List ℕ) → WellFormed t → (bytes : List ℕ) → length bytes ≡ inputs t → (limit : ℕ) → need (trim (decode t)) ≤ limit
     → (emitted : List LeveledBit)
-    × (runOn bytes limit (program (trim (decode t))) ≡ some emitted)
+    × (runOn (decode t) bytes limit (program (trim (decode t))) ≡ some emitted)
     × (map (λ b. b .bit) emitted ≡ evaluate (decode t) bytes)
     × (map (λ b. b .level) emitted ≡ map (depth (decode t)) (decode t .outputs))
     × (largest (map (λ b. b .level) emitted) ≡ circuitDepth (decode t))
@@ -188,7 +196,7 @@ TranslationRuns =
     → (n ≡ need (trim (decode t)))
     × ((bytes : List ℕ) → length bytes ≡ inputs t
     → (emitted : List LeveledBit)
-    × (runOn bytes limit (instructionsOf count after) ≡ some emitted)
+    × (runOn (decode t) bytes limit (instructionsOf count after) ≡ some emitted)
     × (map (λ b. b .bit) emitted ≡ evaluate (decode t) bytes)
     × (largest (map (λ b. b .level) emitted) ≡ circuitDepth (decode t)))
 
@@ -220,6 +228,6 @@ CallsDeliver =
     × (need (handedBack circuit rules sites) ≤ limit
     → (count : ℕ) × (after : List ℕ) × (emitted : List LeveledBit)
     × (translating (encode (handedBack circuit rules sites)) limit buffer ≡ leaving (gives (count ∷ need (handedBack circuit rules sites) ∷ [])) after)
-    × (runOn bytes limit (instructionsOf count after) ≡ some emitted)
+    × (runOn (decode circuit) bytes limit (instructionsOf count after) ≡ some emitted)
     × (map (λ b. b .bit) emitted ≡ evaluate (decode circuit) bytes)
     × (largest (map (λ b. b .level) emitted) ≡ getD values 3 0)))

@@ -32,7 +32,7 @@ abbrev pub paperValues : Translated → Result
 paperValues (Program instructions n) = gives (instructions ∷ n ∷ [])
 paperValues (Refused r) = refused (r .number) (r .table)
 
--- 01, Refusals, 2: 1 for the table; 2, for fewer than `programNumbers`, whatever the program needs; 4 to 7; 9.
+-- 01, Refusals, 2, and 02, 2026-01: 1 for the table; 2, for fewer than `programNumbers`, whatever the program needs; 4, 5, 11, 6, 7; 9.
 abbrev pub translateChecks : (circuit : List ℕ) (limit : ℕ) (buffer : List ℕ) → List Refusal
 translateChecks circuit limit buffer =
     check (isPartial 3 circuit) 1 circuitTable

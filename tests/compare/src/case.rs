@@ -8,11 +8,14 @@ use evaluator::random::Random;
 use evaluator::refusal::CIRCUIT;
 use evaluator::rules::{rules_lines, MOST_RULES};
 use evaluator::sites::sites_lines;
+use evaluator::starting::STARTING;
 use evaluator::translation::MOST_REGISTERS;
 
 use crate::calls::Calls;
-use crate::numbers::{alter, any_lines, odd_number, spoil_table, spoil_text, LINE_NUMBERS};
-use crate::shapes::{chained, crowded, full};
+use crate::numbers::{
+    alter, any_lines, odd_number, spoil_run, spoil_table, spoil_text, LINE_NUMBERS,
+};
+use crate::shapes::{chained, crowded, full, overfull};
 
 /// How many rules are judged, sites matched and limits tried in a case.
 const JUDGED: u32 = 6;
@@ -41,6 +44,9 @@ impl Case {
             if random.chance(8) {
                 spoil_table(random, table);
             }
+        }
+        if random.chance(6) {
+            spoil_run(random, &mut self.tables[0], STARTING);
         }
         for text in &mut self.texts {
             if random.chance(5) {
@@ -71,14 +77,23 @@ impl Case {
 fn texts(random: &mut Random, seed: u64, number: u64) -> [Vec<u8>; 3] {
     let draft = match number % 200 {
         7 => crowded(random),
+        57 | 157 => overfull(random),
         107 => full(random),
-        rest if rest % 10 == 3 => chained(random),
+        113 => full(random).with_wrong_starts(random),
+        rest if rest % 10 == 3 => {
+            let draft = chained(random);
+            if random.chance(30) {
+                draft.with_wrong_starts(random)
+            } else {
+                draft
+            }
+        }
         _ => {
             let case = generator::case(seed, number);
             return [case.circuit, case.rules, case.sites];
         }
     };
-    let circuit = draft.circuit.lines();
+    let circuit = draft.circuit_lines(random);
     let rules = rules_lines(&draft.rules);
     let sites = sites_lines(&draft.sites);
     [circuit, rules, sites].map(|lines| text_of(&lines))

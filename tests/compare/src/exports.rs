@@ -55,6 +55,7 @@ const SHORT_BUFFER: &[Refusal] = &[refusal(2, NO_TABLE)];
 const BAD_CIRCUIT: &[Refusal] = &[
     refusal(4, CIRCUIT),
     refusal(5, CIRCUIT),
+    refusal(11, CIRCUIT),
     refusal(6, CIRCUIT),
     refusal(7, CIRCUIT),
 ];

@@ -5,8 +5,8 @@ use evaluator::random::Random;
 
 pub const LINE_NUMBERS: usize = 3;
 
-/// Limits of 01 and their neighbours, numbers whose triple is near 2 to the power 32, and the largest.
-const ODD: [u32; 30] = [
+/// Limits of 01 and 02 and their neighbours, numbers whose triple is near 2 to the power 32, and the largest.
+const ODD: [u32; 31] = [
     0,
     1,
     2,
@@ -18,6 +18,7 @@ const ODD: [u32; 30] = [
     16,
     64,
     65,
+    255,
     256,
     257,
     512,
@@ -88,6 +89,17 @@ pub fn spoil_table(random: &mut Random, table: &mut Vec<u32>) {
             5..=7 => alter(random, head(table), 0),
             _ => alter(random, table, 0),
         }
+    }
+}
+
+/// Puts another number into one of the lines behind the head that begin with `first`, or into the line behind them.
+pub fn spoil_run(random: &mut Random, table: &mut [u32], first: u32) {
+    let (lines, _) = table.as_chunks_mut::<LINE_NUMBERS>();
+    let run = lines.iter().skip(1).take_while(|line| line[0] == first);
+    let end = 2 + run.count();
+    if end <= lines.len() {
+        let line = random.between(1, end - 1);
+        alter(random, &mut lines[line], 0);
     }
 }
 

@@ -4,16 +4,38 @@ use std::collections::VecDeque;
 
 use evaluator::circuit::{Circuit, MOST_GATES, MOST_INPUTS, MOST_OUTPUTS};
 use evaluator::gates::{Gate, Kind, CONSTANTS};
-use evaluator::generator::stock;
+use evaluator::generator::{outnumber, some_starts, spoil_starts, stock};
+use evaluator::lines::Line;
 use evaluator::random::Random;
 use evaluator::rules::{Rule, MOST_HOLES, MOST_RULES, MOST_SIDE_GATES};
 use evaluator::sites::{Site, MOST_SITES};
+use evaluator::starting::{Start, HIGHEST_LEVEL};
 
 /// A circuit, rules and sites.
 pub struct Draft {
     pub circuit: Circuit,
     pub rules: Vec<Rule>,
     pub sites: Vec<Site>,
+}
+
+impl Draft {
+    /// The same with starting lines that give 11.
+    pub fn with_wrong_starts(mut self, random: &mut Random) -> Draft {
+        let (inputs, gates) = (self.circuit.inputs, self.circuit.gates.len());
+        spoil_starts(random, &mut self.circuit.starts, inputs, gates);
+        self
+    }
+
+    /// The circuit's lines, now and again with one more or less than its head says.
+    pub fn circuit_lines(&self, random: &mut Random) -> Vec<Line> {
+        let mut lines = self.circuit.lines();
+        if random.chance(10) {
+            let last = lines[lines.len() - 1];
+            let count = random.pick(&[lines.len() - 1, lines.len() + 1]);
+            lines.resize(count, last);
+        }
+        lines
+    }
 }
 
 /// A circuit that needs about as many registers as there can be: products that are all held before they are added up.
@@ -31,13 +53,15 @@ pub fn crowded(random: &mut Random) -> Draft {
     }
     let circuit = Circuit {
         inputs,
+        starts: some_starts(random, inputs),
         gates,
         outputs: vec![sum],
     };
     with_stock(random, circuit)
 }
 
-/// A circuit of as many inputs, gates and outputs as there may be, all gates live, and both constants and all inputs used.
+/// A circuit of as many inputs, gates and outputs as there may be, all gates live, and both constants and all inputs used; in half
+/// the cases with as many starting lines too.
 pub fn full(random: &mut Random) -> Draft {
     let inputs = MOST_INPUTS as usize;
     let first = CONSTANTS + inputs;
@@ -54,12 +78,36 @@ pub fn full(random: &mut Random) -> Draft {
     }
     let mut outputs = vec![end - 1];
     outputs.resize_with(MOST_OUTPUTS as usize, || random.below(end));
+    let starts = if random.chance(50) {
+        all_starts(random, inputs)
+    } else {
+        some_starts(random, inputs)
+    };
     let circuit = Circuit {
         inputs,
+        starts,
         gates,
         outputs,
     };
     with_stock(random, circuit)
+}
+
+/// A circuit with more starting lines than one of as many inputs as there may be can have: they give 11, however many lines that makes.
+pub fn overfull(random: &mut Random) -> Draft {
+    let mut draft = full(random);
+    let inputs = draft.circuit.inputs;
+    draft.circuit.starts = all_starts(random, inputs);
+    outnumber(random, &mut draft.circuit.starts, inputs);
+    draft
+}
+
+/// A starting line of any level for every input.
+fn all_starts(random: &mut Random, inputs: usize) -> Vec<Start> {
+    let start = |reference| Start {
+        reference,
+        level: random.between(1, HIGHEST_LEVEL as usize) as u32,
+    };
+    (CONSTANTS..CONSTANTS + inputs).map(start).collect()
 }
 
 /// The circuit with as many rules and sites as there may be, at any of its gates.
@@ -189,6 +237,7 @@ fn planted(random: &mut Random, rule: &Rule, mask: u32) -> (Circuit, usize) {
     let outputs = vec![end, last, random.below(last)];
     let circuit = Circuit {
         inputs,
+        starts: some_starts(random, inputs),
         gates,
         outputs,
     };

@@ -5,21 +5,21 @@ use std::fmt::Display;
 use std::path::Path;
 use std::{fs, io};
 
-use crate::circuit::MOST_OUTPUTS;
+use crate::circuit::{Circuit, MOST_OUTPUTS};
 use crate::depth::measure;
 use crate::evaluation::evaluate;
 use crate::lines;
 use crate::listing::program_output;
 use crate::machine::{run, Value, INSTRUCTION_NUMBERS};
 use crate::matching::match_site;
-use crate::refusal::Answer;
+use crate::refusal::{Answer, CIRCUIT};
 use crate::rewriting::rewrite;
 use crate::rules::judge;
 use crate::translation::{translate, PROGRAM_NUMBERS};
 
 /// As many numbers as the program's tables have room for.
 const CIRCUIT_ROOM: usize = 10_347;
-const TABLE_ROOM: usize = 6_915;
+const TABLE_ROOM: usize = 8_451;
 const SITES_ROOM: usize = 1_539;
 
 /// The register limits that every circuit is translated with.
@@ -112,18 +112,26 @@ fn short_program(table: &[u32], inputs: usize) -> String {
     let Ok(translated) = translate(table, 1024, &mut program) else {
         return String::new();
     };
+    let levels = starting_levels(table).expect("what is translated is a circuit");
     if translated.instructions >= 25 {
         return String::new();
     }
     program.truncate(INSTRUCTION_NUMBERS * translated.instructions);
     let emitted = |pattern| {
-        let emitted = run(translated.need as u32, &bytes(pattern, inputs), &program);
+        let need = translated.need as u32;
+        let emitted = run(need, &bytes(pattern, inputs), &levels, &program);
         let values = emitted.expect("the need is enough");
         let words = |value: &Value| format!(" {} {}", u8::from(value.bit), value.level);
         values.iter().map(words).collect::<String>()
     };
     let runs = format!(", run{}, run{}", emitted(3), emitted(1));
     format!(", program{}{runs}", words(Ok(program)))
+}
+
+/// The level at which the machine loads each input.
+fn starting_levels(table: &[u32]) -> Answer<Vec<u32>> {
+    let lines = lines::lines_of_table(table, CIRCUIT)?;
+    Ok(Circuit::checked(&lines)?.starting_levels())
 }
 
 /// In pattern k the first k of each three bytes are not 0.

@@ -1,4 +1,4 @@
-//! Checks any register program against 01, Register program.
+//! Checks any register program against 01, Register program, and 02, 2026-01.
 
 use std::collections::{BTreeSet, HashMap};
 
@@ -134,8 +134,10 @@ impl<'a> Reader<'a> {
 fn check_runs(circuit: &Circuit, limit: u32, program: &[u32]) -> Checked {
     let depths = depths(circuit);
     let depth = u64::from(pair(circuit).depth);
+    let levels = circuit.starting_levels();
     for inputs in trial_inputs(circuit.inputs) {
-        let emitted = run(limit, &inputs, program).map_err(|fault| format!("{fault:?}"))?;
+        let emitted =
+            run(limit, &inputs, &levels, program).map_err(|fault| format!("{fault:?}"))?;
         let expected: Vec<Value> = output_bits(circuit, &inputs)
             .into_iter()
             .zip(&circuit.outputs)

@@ -1,42 +1,57 @@
-//! Circuits, their checks and trimming (01, Circuits).
+//! Circuits, their checks and trimming (01, Circuits; 02, 2026-01).
 
 use crate::gates::{closing_line, closing_of, gates_of, references_hold, Gate, CONSTANTS};
 use crate::lines::Line;
 use crate::refusal::{refuse_if, Answer, Refusal, CIRCUIT};
+use crate::starting::{split_starting, starting_levels, starts_hold, starts_of, Start};
 
 pub const MOST_INPUTS: u32 = 512;
 pub const MOST_GATES: u32 = 2048;
 pub const MOST_OUTPUTS: u32 = 256;
-/// Numbers in the table of a largest circuit.
-pub const CIRCUIT_NUMBERS: usize = 6915;
+/// Numbers in the table of a largest circuit (02, 2026-01: "result and working
+/// tables grow to 8,451 numbers").
+pub const CIRCUIT_NUMBERS: usize = 8451;
 
 #[derive(Clone, Debug, PartialEq, Eq)]
 pub struct Circuit {
     pub inputs: usize,
+    pub starts: Vec<Start>,
     pub gates: Vec<Gate>,
     pub outputs: Vec<usize>,
 }
 
 impl Circuit {
-    /// The circuit of a table's lines, tested for refusals 4 to 7.
+    /// The circuit of a table's lines, tested for refusals 4, 5, 11, 6 and 7:
+    /// 11 is "tested after 5".
     pub fn checked(lines: &[Line]) -> Answer<Circuit> {
         let [inputs, gates, outputs] = lines[0];
         let outside =
             inputs > MOST_INPUTS || gates > MOST_GATES || !(1..=MOST_OUTPUTS).contains(&outputs);
         refuse_if(outside, 4, CIRCUIT)?;
         let (gates, outputs) = (gates as usize, outputs as usize);
-        refuse_if(lines.len() != 1 + gates + outputs, 5, CIRCUIT)?;
-        let (gates, closings) = lines[1..].split_at(gates);
-        let circuit = Circuit::from_parts(inputs as usize, gates, closings)
-            .ok_or(Refusal::new(6, CIRCUIT))?;
+        let (starting, rest) = split_starting(&lines[1..]);
+        // "The circuit's line count includes them."
+        let count = 1 + starting.len() + gates + outputs;
+        refuse_if(lines.len() != count, 5, CIRCUIT)?;
+        let (inputs, starts) = (inputs as usize, starts_of(starting));
+        refuse_if(!starts_hold(inputs, &starts), 11, CIRCUIT)?;
+        let (gates, closings) = rest.split_at(gates);
+        let circuit =
+            Circuit::from_parts(inputs, starts, gates, closings).ok_or(Refusal::new(6, CIRCUIT))?;
         let hold = references_hold(circuit.inputs, &circuit.gates, &circuit.outputs);
         refuse_if(!hold, 7, CIRCUIT)?;
         Ok(circuit)
     }
 
-    fn from_parts(inputs: usize, gates: &[Line], closings: &[Line]) -> Option<Circuit> {
+    fn from_parts(
+        inputs: usize,
+        starts: Vec<Start>,
+        gates: &[Line],
+        closings: &[Line],
+    ) -> Option<Circuit> {
         Some(Circuit {
             inputs,
+            starts,
             gates: gates_of(gates)?,
             outputs: closings.iter().map(closing_of).collect::<Option<_>>()?,
         })
@@ -45,6 +60,7 @@ impl Circuit {
     pub fn lines(&self) -> Vec<Line> {
         let counts = [self.inputs, self.gates.len(), self.outputs.len()];
         let mut lines = vec![counts.map(|count| count as u32)];
+        lines.extend(self.starts.iter().map(|start| start.line()));
         lines.extend(self.gates.iter().map(|gate| gate.line()));
         lines.extend(self.outputs.iter().map(|&output| closing_line(output)));
         lines
@@ -58,6 +74,11 @@ impl Circuit {
     /// How many references there are.
     pub fn references(&self) -> usize {
         self.first_gate() + self.gates.len()
+    }
+
+    /// 02, 2026-01: the starting level of each input.
+    pub fn starting_levels(&self) -> Vec<u32> {
+        starting_levels(self.inputs, &self.starts)
     }
 
     /// Which gate a reference is, counted from 0; none if it is no gate.
@@ -100,7 +121,8 @@ impl Circuit {
     }
 
     /// 01, Circuits: the live gates only, in order, renumbered; every input
-    /// stays.
+    /// stays, and 02, 2026-01: "trimming keeps these lines", those of inputs
+    /// that nothing uses too.
     pub fn trimmed(&self) -> Circuit {
         let live = self.live();
         let mut names: Vec<usize> = (0..self.first_gate()).collect();
@@ -115,6 +137,7 @@ impl Circuit {
         let outputs = self.outputs.iter().map(|&output| names[output]).collect();
         Circuit {
             inputs: self.inputs,
+            starts: self.starts.clone(),
             gates,
             outputs,
         }

@@ -1,7 +1,7 @@
-//! Depth and critical count (01, Depth and critical count).
+//! Depth and critical count (01, Depth and critical count; 02, 2026-01).
 
 use crate::circuit::Circuit;
-use crate::gates::Kind;
+use crate::gates::{Kind, CONSTANTS};
 use crate::lines::lines_of_table;
 use crate::refusal::{Answer, CIRCUIT};
 
@@ -32,9 +32,11 @@ pub fn pair(circuit: &Circuit) -> Pair {
     Pair { depth, critical }
 }
 
-/// The depth of every reference.
+/// The depth of every reference: a constant's is 0, an input's, by 02,
+/// 2026-01, its starting level.
 pub fn depths(circuit: &Circuit) -> Vec<u32> {
-    let mut depths = vec![0; circuit.first_gate()];
+    let mut depths = vec![0; CONSTANTS];
+    depths.extend(circuit.starting_levels());
     for gate in &circuit.gates {
         let larger = depths[gate.left].max(depths[gate.right]);
         depths.push(larger + gate.kind.ands());

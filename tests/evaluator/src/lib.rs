@@ -1,7 +1,8 @@
-//! An independent reading of paper 01, "The depth rewriter and its rules".
+//! An independent reading of paper 01, "The depth rewriter and its rules", and
+//! of request 2026-01 of paper 02, "More changes customers want".
 //!
 //! Everything here is plain and slow on purpose: each function renders a
-//! sentence or two of the paper, named in its comment by section. Nothing is
+//! sentence or two of the papers, named in its comment by section. Nothing is
 //! shared with the product, so that agreement of the two says something.
 //!
 //! The calls: [`lines::read`], [`lines::write`], [`evaluation::evaluate`],
@@ -28,4 +29,5 @@ pub mod refusal;
 pub mod rewriting;
 pub mod rules;
 pub mod sites;
+pub mod starting;
 pub mod translation;

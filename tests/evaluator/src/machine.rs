@@ -1,4 +1,4 @@
-//! The register machine (01, Register program).
+//! The register machine (01, Register program; 02, 2026-01).
 
 use std::collections::HashMap;
 
@@ -33,16 +33,25 @@ pub struct Fault {
 struct Machine<'a> {
     limit: u32,
     inputs: &'a [u8],
+    /// The starting level of each input.
+    levels: &'a [u32],
     registers: HashMap<u32, Value>,
     emitted: Vec<Value>,
 }
 
-/// Runs a program on a machine of `limit` registers, empty at first; numbers
-/// that don't make up an instruction are one more fault.
-pub fn run(limit: u32, inputs: &[u8], program: &[u32]) -> Result<Vec<Value>, Fault> {
+/// Runs a program on a machine of `limit` registers, empty at first, given a
+/// byte and a starting level an input; numbers that don't make up an
+/// instruction are one more fault.
+pub fn run(
+    limit: u32,
+    inputs: &[u8],
+    levels: &[u32],
+    program: &[u32],
+) -> Result<Vec<Value>, Fault> {
     let mut machine = Machine {
         limit,
         inputs,
+        levels,
         registers: HashMap::new(),
         emitted: Vec::new(),
     };
@@ -82,14 +91,16 @@ impl Machine<'_> {
         }
     }
 
-    /// A constant or input at level 0; none for any other reference.
+    /// A constant at level 0 or an input at its starting level (02, 2026-01:
+    /// "the level of its load"); none for any other reference.
     fn source(&self, reference: u32) -> Option<Value> {
-        let bit = match reference as usize {
-            0 => false,
-            1 => true,
-            input => bit_of(*self.inputs.get(input - CONSTANTS)?),
+        let Some(input) = (reference as usize).checked_sub(CONSTANTS) else {
+            let bit = reference == 1;
+            return Some(Value { bit, level: 0 });
         };
-        Some(Value { bit, level: 0 })
+        let bit = bit_of(*self.inputs.get(input)?);
+        let level = u64::from(self.levels[input]);
+        Some(Value { bit, level })
     }
 
     /// A full register's value; registers not below the limit are never full.

@@ -1,4 +1,4 @@
-//! Replacement, verdicts and the run over the sites (01, Sites).
+//! Replacement, verdicts and the run over the sites (01, Sites; 02, 2026-01).
 
 use crate::circuit::{Circuit, CIRCUIT_NUMBERS, MOST_GATES};
 use crate::depth::{pair, Pair};
@@ -53,7 +53,8 @@ pub fn rewrite(
     })
 }
 
-/// Checks the three tables' lines for 4 to 8, one after another, and runs.
+/// Checks the three tables' lines for 4 to 8 and 11, one after another, and
+/// runs.
 pub fn run(circuit: &[Line], rules: &[Line], sites: &[Line]) -> Answer<Run> {
     let circuit = Circuit::checked(circuit)?;
     let rules = checked_rules(rules)?;
@@ -113,7 +114,8 @@ pub fn improved(circuit: &Circuit, rules: &[Rule], site: Site) -> Result<Circuit
 }
 
 /// 01, Sites, replacement: a new gate list with the right gates in the place of
-/// `gate`, and every reference renamed to its place in it.
+/// `gate`, and every reference renamed to its place in it. Inputs keep their
+/// references, and so the starting lines stay.
 pub fn replaced(circuit: &Circuit, rule: &Rule, bindings: &Bindings, gate: usize) -> Circuit {
     let first = circuit.first_gate();
     let mut names: Vec<usize> = (0..first).collect();
@@ -138,6 +140,7 @@ pub fn replaced(circuit: &Circuit, rule: &Rule, bindings: &Bindings, gate: usize
         .collect();
     Circuit {
         inputs: circuit.inputs,
+        starts: circuit.starts.clone(),
         gates,
         outputs,
     }

@@ -25,7 +25,7 @@ fn value(bit: bool, level: u64) -> Value {
 
 /// The instruction at which a run of two registers and one input faults.
 fn fault_at(program: &[[u32; 4]]) -> Option<usize> {
-    run(2, &[1], &program.concat())
+    run(2, &[1], &[0], &program.concat())
         .err()
         .map(|fault| fault.instruction)
 }
@@ -42,7 +42,7 @@ fn the_machine_computes_bits_and_levels() {
         [2, 0, 0, 0],
         [3, 0, 0, 0],
     ];
-    let emitted = run(2, &[9], &program.concat());
+    let emitted = run(2, &[9], &[0], &program.concat());
     let expected = vec![value(true, 1), value(false, 1), value(false, 2)];
     assert_eq!(emitted, Ok(expected));
 }
@@ -80,8 +80,8 @@ fn a_fault_ends_the_run_after_what_was_emitted() {
         instruction: 2,
         emitted: vec![value(true, 0)],
     };
-    assert_eq!(run(2, &[], &program.concat()), Err(fault));
-    assert!(run(1, &[], &[4, 0, 1, 0, 3, 0, 0]).is_err());
+    assert_eq!(run(2, &[], &[], &program.concat()), Err(fault));
+    assert!(run(1, &[], &[], &[4, 0, 1, 0, 3, 0, 0]).is_err());
 }
 
 /// Translates with just the need, and checks the program.

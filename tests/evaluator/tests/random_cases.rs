@@ -7,9 +7,10 @@ use std::collections::BTreeSet;
 use common::{call_translate, refused};
 use evaluator::checking::check_program;
 use evaluator::circuit::Circuit;
-use evaluator::depth::pair;
+use evaluator::depth::{measure, pair, Pair};
 use evaluator::evaluation::output_bits;
-use evaluator::generator::{case, Case, FAULTS};
+use evaluator::gates::CONSTANTS;
+use evaluator::generator::{case, some_starts, spoil_starts, Case, FAULTS};
 use evaluator::lines::{lines_of_text, Line};
 use evaluator::listing::counted;
 use evaluator::random::Random;
@@ -50,6 +51,44 @@ fn every_verdict_and_every_refusal_occurs() {
 }
 
 #[test]
+fn inputs_have_starting_lines_or_not() {
+    let mut counts = [0; 3];
+    for case in cases() {
+        let Ok(run) = run_case(&case) else {
+            continue;
+        };
+        let (inputs, starts) = (run.circuit.inputs, run.circuit.starts.len());
+        counts[0] += u32::from(starts == 0);
+        counts[1] += u32::from(0 < starts && starts < inputs);
+        counts[2] += u32::from(0 < starts && starts == inputs);
+    }
+    assert!(counts.iter().all(|&count| count > 9), "{counts:?}");
+}
+
+#[test]
+fn spoilt_starting_lines_give_11() {
+    let mut random = Random::new(4, 0);
+    for _ in 0..2000 {
+        let inputs = random.pick(&[0, 1, 2, 3, 30, 512]);
+        let mut circuit = Circuit {
+            inputs,
+            starts: some_starts(&mut random, inputs),
+            gates: Vec::new(),
+            outputs: vec![random.below(CONSTANTS + inputs)],
+        };
+        assert!(measure(&circuit.lines().concat()).is_ok());
+        spoil_starts(&mut random, &mut circuit.starts, inputs, 0);
+        assert_eq!(measure(&circuit.lines().concat()), refused(11, CIRCUIT));
+    }
+}
+
+/// The number that falls with each kept site (02, 2026-01: "the bound with
+/// 2,049 holds for the depths so defined").
+fn bound(pair: Pair) -> u32 {
+    2049 * pair.depth + pair.critical
+}
+
+#[test]
 fn a_case_does_not_depend_on_the_others() {
     let [first, again, other] = [(1, 7), (1, 7), (2, 7)].map(|(seed, number)| case(seed, number));
     assert_eq!(first.circuit, again.circuit);
@@ -68,8 +107,10 @@ fn rewriting_keeps_the_outputs_and_never_raises_the_pair() {
         let circuit = Circuit::checked(&lines).expect("a run has a circuit");
         assert!(run.new <= run.old);
         assert_eq!(run.new == run.old, run.kept() == 0);
+        assert!(run.kept() as u32 + bound(run.new) <= bound(run.old));
         assert_eq!(run.new, pair(&run.circuit));
         assert_eq!(run.circuit, run.circuit.trimmed());
+        assert_eq!(run.circuit.starts, circuit.starts);
         for _ in 0..16 {
             let inputs: Vec<u8> = (0..circuit.inputs).map(|_| random.input_byte()).collect();
             let before = output_bits(&circuit, &inputs);

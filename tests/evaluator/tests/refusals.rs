@@ -67,8 +67,13 @@ fn circuit_lines_more_or_fewer() {
 
 #[test]
 fn circuit_kinds() {
-    for kind in [0, 3, 4, HUGE] {
+    for kind in [0, 3, 5, HUGE] {
         let lines = [[0, 1, 1], [kind, HUGE, 0], [3, 0, 0]];
+        assert_eq!(measured(&lines), refused(6, 1));
+    }
+    // Kind 4 in a first gate line makes it a starting line (02, 2026-01).
+    for kind in [0, 3, 4, HUGE] {
+        let lines = [[0, 2, 1], [1, HUGE, 0], [kind, HUGE, 0], [3, 0, 0]];
         assert_eq!(measured(&lines), refused(6, 1));
     }
     for closing in [[2, 0, 0], [4, 0, 0], [3, 0, 1], [3, HUGE, HUGE]] {

@@ -1,6 +1,7 @@
 //! Circuits for random cases, with left sides of rules planted in them.
 
 use super::rules::sometimes_swapped;
+use super::starts::some_starts;
 use crate::circuit::{Circuit, MOST_GATES, MOST_INPUTS, MOST_OUTPUTS};
 use crate::gates::{Gate, Kind, CONSTANTS};
 use crate::random::Random;
@@ -122,6 +123,7 @@ impl Growing {
         references.swap(0, place);
         Circuit {
             inputs: self.inputs,
+            starts: some_starts(random, self.inputs),
             gates: self.gates,
             outputs: references,
         }

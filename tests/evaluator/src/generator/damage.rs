@@ -1,6 +1,8 @@
 //! Damage to a draft, each aimed at one refusal.
 
-use super::{rules::idle_variant, Case, Draft};
+use super::rules::idle_variant;
+use super::starts::spoil_starts;
+use super::{Case, Draft};
 use crate::circuit::{Circuit, MOST_GATES, MOST_INPUTS, MOST_OUTPUTS};
 use crate::gates::CONSTANTS;
 use crate::lines::{read_line, text_of, Line, LARGEST, LINE_BYTES};
@@ -9,9 +11,10 @@ use crate::random::Random;
 use crate::refusal::{Refusal, CIRCUIT, RULES, SITES};
 use crate::rules::{rules_lines, Rule, MOST_HOLES, MOST_RULES, MOST_SIDE_GATES};
 use crate::sites::{sites_lines, MOST_SITES};
+use crate::starting::{starts_of, STARTING};
 
 /// Every refusal that a listing of three texts can have, given its buffer.
-pub const FAULTS: [Refusal; 17] = [
+pub const FAULTS: [Refusal; 18] = [
     Refusal::new(1, CIRCUIT),
     Refusal::new(1, RULES),
     Refusal::new(1, SITES),
@@ -24,6 +27,7 @@ pub const FAULTS: [Refusal; 17] = [
     Refusal::new(5, CIRCUIT),
     Refusal::new(5, RULES),
     Refusal::new(5, SITES),
+    Refusal::new(11, CIRCUIT),
     Refusal::new(6, CIRCUIT),
     Refusal::new(6, RULES),
     Refusal::new(7, CIRCUIT),
@@ -32,13 +36,14 @@ pub const FAULTS: [Refusal; 17] = [
 ];
 
 /// The order in which damages are done: each leaves the later ones possible.
-const ORDER: [u32; 7] = [8, 7, 6, 4, 5, 3, 1];
+const ORDER: [u32; 8] = [8, 7, 6, 11, 4, 5, 3, 1];
 
 /// What a line of a table is, with what its numbers may be.
 #[derive(Clone, Copy)]
 enum Role {
     /// The least and the largest of each number.
     Head([(u32, u32); 3]),
+    Start,
     /// The gate's own reference.
     Gate(u32),
     /// The first reference beyond those that may be closed on.
@@ -61,7 +66,7 @@ pub fn damaged(random: &mut Random, mut draft: Draft, faults: &[Refusal]) -> Cas
     }
     let mut sheets = sheets(&draft);
     for fault in ORDER.into_iter().flat_map(of) {
-        sheets[fault.table as usize - 1].damage(random, fault.number);
+        sheets[fault.table as usize - 1].damage(random, *fault);
     }
     let mut texts = sheets.map(|sheet| text_of(&sheet.lines));
     for fault in ORDER.into_iter().flat_map(of) {
@@ -104,6 +109,7 @@ fn list_roles(most: u32, parts: impl Iterator<Item = Role>) -> Vec<Role> {
 fn circuit_roles(circuit: &Circuit) -> Vec<Role> {
     let head = [(0, MOST_INPUTS), (0, MOST_GATES), (1, MOST_OUTPUTS)];
     let mut roles = vec![Role::Head(head)];
+    roles.extend(circuit.starts.iter().map(|_| Role::Start));
     roles.extend(gate_roles(circuit.inputs, circuit.gates.len()));
     let closing = Role::Closing(circuit.references() as u32);
     roles.extend(circuit.outputs.iter().map(|_| closing));
@@ -126,15 +132,23 @@ fn gate_roles(inputs: usize, gates: usize) -> impl Iterator<Item = Role> {
 }
 
 impl Sheet {
-    /// Does the damage of refusals 4 to 7; no other.
-    fn damage(&mut self, random: &mut Random, number: u32) {
-        match number {
+    /// Does the damage of refusals 4 to 7 and 11; no other.
+    fn damage(&mut self, random: &mut Random, fault: Refusal) {
+        match fault.number {
             4 => self.break_limit(random),
+            5 if fault.table == CIRCUIT && random.chance(50) => self.break_run(random),
             5 => self.miscount(random),
             6 => self.mistake_kind(random),
             7 => self.reach_beyond(random),
+            11 => self.mistake_start(random),
             _ => {}
         }
+    }
+
+    /// How many starting lines there are, by their places.
+    fn starts(&self) -> usize {
+        let is_start = |role: &&Role| matches!(role, Role::Start);
+        self.roles.iter().filter(is_start).count()
     }
 
     /// Some line of the wanted roles; there is always one.
@@ -156,9 +170,10 @@ impl Sheet {
         self.lines[line][column] = random.pick(&[below, largest + 1, largest + 2, LARGEST]);
     }
 
-    /// Takes lines away or puts some in, never the head.
+    /// Takes lines away or puts some in, never the head. A starting line less
+    /// would be counted rightly.
     fn miscount(&mut self, random: &mut Random) {
-        let place = random.between(1, self.lines.len());
+        let place = random.between(1 + self.starts(), self.lines.len());
         let there = place < self.lines.len();
         match random.below(3) {
             0 if there => {
@@ -167,9 +182,41 @@ impl Sheet {
             1 if there => self.lines.truncate(place),
             _ => {
                 let copy = self.lines[random.below(self.lines.len())];
+                let place = random.between(1, self.lines.len());
                 self.lines.insert(place, copy);
             }
         }
+    }
+
+    /// Makes the run of starting lines longer or shorter with as many lines in
+    /// all: by what one of them or the line behind them begins with, or by
+    /// exchanging one of them for another line.
+    fn break_run(&mut self, random: &mut Random) {
+        let run = self.starts();
+        match random.below(3) {
+            0 if run > 0 => {
+                let line = random.between(1, run);
+                self.lines[line][0] = random.pick(&[0, 1, 2, 3, 5, LARGEST]);
+            }
+            1 if run > 0 => {
+                let line = random.between(1, run);
+                let other = random.between(1 + run, self.lines.len() - 1);
+                self.lines.swap(line, other);
+            }
+            _ => self.lines[1 + run][0] = STARTING,
+        }
+    }
+
+    /// Makes the starting lines give 11.
+    fn mistake_start(&mut self, random: &mut Random) {
+        let [inputs, gates, _] = self.lines[0].map(|number| number as usize);
+        let places = 1..1 + self.starts();
+        let mut starts = starts_of(&self.lines[places.clone()]);
+        spoil_starts(random, &mut starts, inputs, gates);
+        let roles = starts.iter().map(|_| Role::Start);
+        self.roles.splice(places.clone(), roles);
+        self.lines
+            .splice(places, starts.iter().map(|start| start.line()));
     }
 
     fn mistake_kind(&mut self, random: &mut Random) {

@@ -4,6 +4,7 @@ mod circuits;
 mod damage;
 mod rules;
 mod sites;
+mod starts;
 
 use crate::circuit::Circuit;
 use crate::random::Random;
@@ -13,6 +14,7 @@ use crate::sites::Site;
 
 pub use damage::FAULTS;
 pub use rules::{spoiled, stock};
+pub use starts::{outnumber, some_starts, spoil_starts};
 
 /// The three texts of a case.
 pub struct Case {

@@ -19,7 +19,7 @@ array-share-prefix-bytes : tie.Need-array-share-prefix-bytes
 array-share-prefix-bytes c = search needs
 
 slice-aggregate-print-run : tie.Need-slice-aggregate-print-run
-slice-aggregate-print-run c = sym (length-take-le (c .before .before .before .before .before .args .inputs) (c .before .before .before .pattern .result) (omega arith))
+slice-aggregate-print-run c = sym (length-take-le (c .before .before .before .before .before .before .args .inputs) (c .before .before .before .pattern .result) (omega arith))
 
 print-run-requires : tie.Need-print-run-requires
 print-run-requires c κs = search needs

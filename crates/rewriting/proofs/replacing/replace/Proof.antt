@@ -1,4 +1,4 @@
--- Five parts make the table: laws `replace-stores`, `replace-over` and `replace-end`; what was read of the right side is within its limits.
+-- Five parts make the table: laws `replace-stores`, `replace-room` and `replace-end`; what was read of the right side is within its limits.
 use mathlib.Core.Path.{_≡_, _∙_}
 use mathlib.Core.Bool.{true}
 use Prim.Native.Nat.{_-_}
@@ -9,7 +9,7 @@ use Rattle.circuit.specs.Each.{allGates}
 use Rattle.circuit.specs.Refusal.{operandsBelow}
 use Rattle.rules.proofs.RefusalLaws.{closing-below}
 use Rattle.rewriting.specs.Replacement.{AllBound}
-use Rattle.rewriting.proofs.LineLaws.{Fits, replace-fits, right-ordered, replace-stores, replace-over, replace-end}
+use Rattle.rewriting.proofs.LineLaws.{Fits, replace-fits, right-ordered, replace-stores, replace-room, replace-end}
 use borrow.Author.Needs.{needs}
 use Rattle.rewriting.proofs.replacing.replace.Statement.{statement}
 use Rattle.rewriting.proofs.replacing.replace.Tie as tie
@@ -46,20 +46,17 @@ instance-of-requires c κs =
 shared-slice-read-gates : tie.Need-shared-slice-read-gates
 shared-slice-read-gates c = search needs
 
-shared-slice-read-write-row : tie.Need-shared-slice-read-write-row
-shared-slice-read-write-row c = search needs
+sub-write-front : tie.Need-sub-write-front
+sub-write-front c = omega (arith, fits (c .before .before))
 
-sub-write-row : tie.Need-sub-write-row
-sub-write-row c = omega (arith, fits (c .before .before .before .before))
+add-write-front : tie.Need-add-write-front
+add-write-front c = search needs
 
-add-write-row : tie.Need-add-write-row
-add-write-row c = search needs
-
-shared-slice-read-write-row-2 : tie.Need-shared-slice-read-write-row-2
-shared-slice-read-write-row-2 c = search needs
-
-write-row-requires : tie.Need-write-row-requires
-write-row-requires c κs = search needs
+write-front-requires : tie.Need-write-front-requires
+write-front-requires c κs =
+    let s = c .before .before .before .before .before .before .before .before .before in
+    let from = c .before .before .before .before .before .gates-from .ensures in
+    (s .pre .0, (from, omega (arith, from, fits (c .before .before .before .before), s .pre .1 .1 .1 .1 .1)))
 
 shared-slice-read-before : tie.Need-shared-slice-read-before
 shared-slice-read-before c = search needs
@@ -68,76 +65,91 @@ add-before : tie.Need-add-before
 add-before c = search needs
 
 sub-before : tie.Need-sub-before
-sub-before c = omega (arith, fits (c .before .before .before .before .before .before .before .before .before .before))
+sub-before c = omega (arith, fits (c .before .before .before .before .before .before .before .before))
 
 cast-before : tie.Need-cast-before
 cast-before c = search needs
 
 write-gates-requires : tie.Need-write-gates-requires
 write-gates-requires c κs =
-    let f = fits (c .before .before .before .before .before .before .before .before .before .before .before) in
-    (c .before .before .before .before .before .before .before .before .before .before .before .before .before .before .before .before .pre .0, (c .before .before .before .before .before .before .before .before .before .before .before .before .gates-from .ensures, ((omega (arith, f), omega (arith, f)), (f .count-limit, omega (arith, f, c .before .before .before .before .before .before .before .before .before .before .before .before .gates-from .ensures, c .before .before .before .before .before .before .before .before .before .before .before .before .before .before .before .before .pre .1 .1 .1 .1 .1, c .before .before .before .before .write-row .kept .0)))))
+    let f = fits (c .before .before .before .before .before .before .before .before .before) in
+    let p = c .before .before .before .before .before .before .before .before .before .before .before .before .before .before .pre in
+    let from = c .before .before .before .before .before .before .before .before .before .before .gates-from .ensures in
+    (p .0, (from, ((omega (arith, f), omega (arith, f)), (f .count-limit, omega (arith, f, from, p .1 .1 .1 .1 .1, c .before .before .before .before .write-front .kept .1 .1 .1 .0)))))
 
 write-rights-requires : tie.Need-write-rights-requires
 write-rights-requires c κs =
-    let s = c .before .before .before .before .before .before .before .before .before .before .before .before .before .before .before in
-    let p = c .before .before .before .before .before .before .before .before .before .before .before .before .before .before .before .before .before .before .before .before .pre in
-    let f = fits s in (
-      (f .base-limit, f .count-limit),
-      (
-        omega (arith, s .right-side .ensures, p .1 .0 .sized),
-        (ordered s, (omega (arith, f), (bound s, omega (arith, f, p .1 .1 .1 .1 .1, c .before .before .before .before .before .before .before .before .write-row .kept .0, c .before .before .before .before .before .before .before .before .before .before .before .before .before .before .before .before .gates-from .ensures, c .before .before .before .write-gates .ensures .1, c .before .before .before .write-gates .kept .1 .1 .1 .1 .1 .0)))),
-      ),
-    )
+    let s = c .before .before .before .before .before .before .before .before .before .before .before .before .before in
+    let p = c .before .before .before .before .before .before .before .before .before .before .before .before .before .before .before .before .before .before .pre in
+    let f = fits s in
+    let w = c .before .before .before .write-gates in
+    ((f .base-limit, f .count-limit), (omega (arith, s .right-side .ensures, p .1 .0 .sized), (ordered s, (omega (arith, f), (bound s, omega (arith, f, p .1 .1 .1 .1 .1, c .before .before .before .before .before .before .before .before .write-front .kept .1 .1 .1 .0, c .before .before .before .before .before .before .before .before .before .before .before .before .before .before .gates-from .ensures, w .ensures .1, w .kept .1 .1 .1 .1 .1 .0))))))
 
 add-write-gates : tie.Need-add-write-gates
 add-write-gates c = search needs
 
 cast-write-gates : tie.Need-cast-write-gates
-cast-write-gates c = omega (arith, fits (c .before .before .before .before .before .before .before .before .before .before .before .before .before .before .before .before .before .before))
+cast-write-gates c = omega (arith, fits (c .before .before .before .before .before .before .before .before .before .before .before .before .before .before .before .before))
 
 write-gates-requires-2 : tie.Need-write-gates-requires-2
 write-gates-requires-2 c κs =
-    let f = fits (c .before .before .before .before .before .before .before .before .before .before .before .before .before .before .before .before .before .before .before) in (
-      c .before .before .before .before .before .before .before .before .before .before .before .before .before .before .before .before .before .before .before .before .before .before .before .before .pre .0,
-      (
-        c .before .before .before .before .before .before .before .before .before .before .before .before .before .before .before .before .before .before .before .before .gates-from .ensures,
-        (
-          (omega (arith, f), omega (arith, f)),
-          (
-            f .count-limit,
-            omega (arith, f, c .before .before .before .before .before .before .before .before .before .before .before .before .before .before .before .before .before .before .before .before .before .before .before .before .pre .1 .1 .1 .1 .1, c .before .before .before .before .before .before .before .before .before .before .before .before .write-row .kept .0, c .before .before .before .before .before .before .before .before .before .before .before .before .before .before .before .before .before .before .before .before .gates-from .ensures, c .before .before .before .before .before .before .before .write-gates .ensures .1, c .before .before .before .before .before .before .before .write-gates .kept .1 .1 .1 .1 .1 .0, c .before .before .before .write-rights .ensures .1, c .before .before .before .write-rights .kept .1 .1 .1 .1 .0),
-          ),
-        ),
-      ),
-    )
+    let f = fits (c .before .before .before .before .before .before .before .before .before .before .before .before .before .before .before .before .before) in
+    let p = c .before .before .before .before .before .before .before .before .before .before .before .before .before .before .before .before .before .before .before .before .before .before .pre in
+    let from = c .before .before .before .before .before .before .before .before .before .before .before .before .before .before .before .before .before .before .gates-from .ensures in
+    let w = c .before .before .before .before .before .before .before .write-gates in
+    let r = c .before .before .before .write-rights in
+    (p .0, (from, ((omega (arith, f), omega (arith, f)), (f .count-limit, omega (arith, f, p .1 .1 .1 .1 .1, c .before .before .before .before .before .before .before .before .before .before .before .before .write-front .kept .1 .1 .1 .0, from, w .ensures .1, w .kept .1 .1 .1 .1 .1 .0, r .ensures .1, r .kept .1 .1 .1 .1 .0)))))
 
 write-closings-requires : tie.Need-write-closings-requires
 write-closings-requires c κs =
-    let f = fits (c .before .before .before .before .before .before .before .before .before .before .before .before .before .before .before .before .before .before .before .before .before .before .before) in (
-      c .before .before .before .before .before .before .before .before .before .before .before .before .before .before .before .before .before .before .before .before .before .before .before .before .before .before .before .before .pre .0,
-      (
-        f .count-limit,
-        omega (arith, f, c .before .before .before .before .before .before .before .before .before .before .before .before .before .before .before .before .before .before .before .before .before .before .before .before .before .before .before .before .pre .1 .1 .1 .1 .1, c .before .before .before .before .before .before .before .before .before .before .before .before .before .before .before .before .write-row .kept .0, c .before .before .before .before .before .before .before .before .before .before .before .before .before .before .before .before .before .before .before .before .before .before .before .before .gates-from .ensures, c .before .before .before .before .before .before .before .before .before .before .before .write-gates .ensures .1, c .before .before .before .before .before .before .before .before .before .before .before .write-gates .kept .1 .1 .1 .1 .1 .0, c .before .before .before .before .before .before .before .write-rights .ensures .1, c .before .before .before .before .before .before .before .write-rights .kept .1 .1 .1 .1 .0, c .before .before .before .write-gates2 .ensures .1, c .before .before .before .write-gates2 .kept .1 .1 .1 .1 .1 .0),
-      ),
-    )
+    let f = fits (c .before .before .before .before .before .before .before .before .before .before .before .before .before .before .before .before .before .before .before .before .before) in
+    let p = c .before .before .before .before .before .before .before .before .before .before .before .before .before .before .before .before .before .before .before .before .before .before .before .before .before .before .pre in
+    let w = c .before .before .before .before .before .before .before .before .before .before .before .write-gates in
+    let r = c .before .before .before .before .before .before .before .write-rights in
+    let b = c .before .before .before .write-gates2 in
+    (p .0, (f .count-limit, omega (arith, f, p .1 .1 .1 .1 .1, c .before .before .before .before .before .before .before .before .before .before .before .before .before .before .before .before .write-front .kept .1 .1 .1 .0, c .before .before .before .before .before .before .before .before .before .before .before .before .before .before .before .before .before .before .before .before .before .before .gates-from .ensures, w .ensures .1, w .kept .1 .1 .1 .1 .1 .0, r .ensures .1, r .kept .1 .1 .1 .1 .0, b .ensures .1, b .kept .1 .1 .1 .1 .1 .0)))
 
 same-length : tie.Need-same-length
 same-length c = search needs
 
 returns : tie.Need-returns
 returns c =
-    let s = c .before .before .before .before .before .before .before .before .before .before .before .before .before .before .before .before .before .before .before .before .before .before .before .before .before .before .before .before .before .before .before in
+    let s = c .before .before .before .before .before .before .before .before .before .before .before .before .before .before .before .before .before .before .before .before .before .before .before .before .before .before .before .before .before in
     let a = s .args in
-    let q = c .before .before .before .before .before .before .before .before .before .before .before .before .before .before .before .before .before .before .before .before .before .before .before .before .before .before .right-side .ensures in
-    let k = replace-stores (a .c .now) (s .pre .0) (a .gate) (s .pre .1 .1 .0) (a .t .now) (a .p) (s .pre .1 .1 .1 .1 .0) _ _ (q .0) (q .1 .0)
-    (a .b .now) _ _ _ (q .1 .1 .0) (q .1 .1 .1) (c .before .before .before .before .before .before .before .before .before .before .before .before .before .before .before .before .before .before .before .before .before .before .before .before .before .instance-of .ensures) (a .out .now) _ _ _ _ _ _ _ _ _
-    (c .before .before .before .before .before .before .before .before .before .before .before .before .before .before .before .before .before .before .before .write-row .ensures) (c .before .before .before .before .before .before .before .before .before .before .before .before .before .before .before .before .before .before .before .before .before .before .before .before .before .before .before .gates-from .ensures) (c .before .before .before .before .before .before .before .before .before .before .before .before .before .before .write-gates .ensures .0) (c .before .before .before .before .before .before .before .before .before .before .before .before .before .before .write-gates .ensures .1)
-    (c .before .before .before .before .before .before .before .before .before .before .write-rights .ensures .0) (c .before .before .before .before .before .before .before .before .before .before .write-rights .ensures .1) (c .before .before .before .before .before .before .write-gates2 .ensures .0) (c .before .before .before .before .before .before .write-gates2 .ensures .1) (c .before .before .write-closings .ensures .0) in (
-      k ∙ replace-over (a .c .now) (s .pre .0) (a .gate) (s .pre .1 .1 .0) (a .t .now) (a .p) (s .pre .1 .1 .1 .1 .0) _ _ (q .0) (q .1 .0) (a .b .now) (a .out .now) (s .pre .1 .1 .1 .1 .1),
-      c .before .before .write-closings .ensures .1 ∙ replace-end (a .c .now) (s .pre .0) (a .gate) (s .pre .1 .1 .0) (a .t .now) (a .p) (s .pre .1 .1 .1 .1 .0) _ _ (q .0) (q .1 .0) (a .b .now) _ _ _ _
-          (c .before .before .before .before .before .before .before .before .before .before .before .before .before .before .before .before .before .before .before .before .before .before .before .before .before .before .before .gates-from .ensures) (c .before .before .before .before .before .before .before .before .before .before .before .before .before .before .write-gates .ensures .1) (c .before .before .before .before .before .before .before .before .before .before .write-rights .ensures .1) (c .before .before .before .before .before .before .write-gates2 .ensures .1),
+    let q = c .before .before .before .before .before .before .before .before .before .before .before .before .before .before .before .before .before .before .before .before .before .before .before .before .right-side .ensures in
+    let from = c .before .before .before .before .before .before .before .before .before .before .before .before .before .before .before .before .before .before .before .before .before .before .before .before .before .gates-from .ensures in
+    let w = c .before .before .before .before .before .before .before .before .before .before .before .before .before .before .write-gates .ensures in
+    let r = c .before .before .before .before .before .before .before .before .before .before .write-rights .ensures in
+    let b = c .before .before .before .before .before .before .write-gates2 .ensures in
+    let closed = c .before .before .write-closings .ensures in
+    let room = replace-room (a .c .now) (s .pre .0) (a .gate) (s .pre .1 .1 .0) (a .t .now) (a .p) (s .pre .1 .1 .1 .1 .0) _ _ (q .0) (q .1 .0) (a .b .now) in (
+      replace-stores (a .c .now) (s .pre .0) (a .gate) (s .pre .1 .1 .0) (a .t .now) (a .p) (s .pre .1 .1 .1 .1 .0) _ _ (q .0) (q .1 .0) (a .b .now) _ _ _ (q .1 .1 .0) (q .1 .1 .1)
+          (c .before .before .before .before .before .before .before .before .before .before .before .before .before .before .before .before .before .before .before .before .before .before .before .instance-of .ensures) (a .out .now) _ _ _ _ _ _ _ _ _ (c .before .before .before .before .before .before .before .before .before .before .before .before .before .before .before .before .before .before .before .write-front .ensures) from (w .0) (w .1) (r .0) (r .1) (b .0) (b .1) (closed .0)
+          (omega (arith, s .pre .1 .1 .1 .1 .1, room)),
+      closed .1 ∙ replace-end (a .c .now) (s .pre .0) (a .gate) (s .pre .1 .1 .0) (a .t .now) (a .p) (s .pre .1 .1 .1 .1 .0) _ _ (q .0) (q .1 .0) (a .b .now) _ _ _ _
+          from (w .1) (r .1) (b .1),
     )
 
 pub replace-spec : {M : Type 1} → statement M
-replace-spec = tie.close (tie.spec gates-from-requires right-side-requires instance-of-requires shared-slice-read-gates shared-slice-read-write-row sub-write-row add-write-row shared-slice-read-write-row-2 write-row-requires shared-slice-read-before add-before sub-before cast-before write-gates-requires write-rights-requires add-write-gates cast-write-gates write-gates-requires-2 write-closings-requires same-length returns)
+replace-spec =
+    tie.close
+    (tie.spec
+    gates-from-requires
+    right-side-requires
+    instance-of-requires
+    shared-slice-read-gates
+    sub-write-front
+    add-write-front
+    write-front-requires
+    shared-slice-read-before
+    add-before
+    sub-before
+    cast-before
+    write-gates-requires
+    write-rights-requires
+    add-write-gates
+    cast-write-gates
+    write-gates-requires-2
+    write-closings-requires
+    same-length
+    returns)

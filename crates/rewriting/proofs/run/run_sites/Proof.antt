@@ -13,7 +13,7 @@ use Rattle.rules.specs.SiteTable.{siteCount, maxSites, sitesFrom, siteAt}
 use Rattle.rules.proofs.JudgedLaws.{remembered-none}
 use Rattle.rewriting.specs.Run.{State, Step, step, afterSites, verdictAt, verdictsOf}
 use Rattle.rewriting.specs.RunState.{stateOf, stepOf, Held, DepthsHeld}
-use Rattle.rewriting.proofs.FrontLaws.{written-over}
+use Rattle.circuit.proofs.BufferLaws.{written-over}
 use Rattle.rewriting.proofs.RunLaws.{after-none, kept-limit}
 use Rattle.rewriting.proofs.RunStateLaws.{turn-state, turn-verdict, turn-limit}
 use Rattle.rewriting.proofs.run.run_sites.Statement.{statement}

@@ -1,5 +1,6 @@
 -- Either array is as long as the table at least, and the rest is `translate_in`.
 use native.Mathlib.Omega.{arith}
+use Rattle.circuit.proofs.StartLaws.{starts-are-inputs}
 use borrow.Author.Needs.{needs}
 use Rattle.translator.proofs.program.translate_accepted.Statement.{statement}
 use Rattle.translator.proofs.program.translate_accepted.Tie as tie
@@ -24,7 +25,7 @@ slice-aggregate-translate-in-2 c = search needs
 translate-in-requires-2 : tie.Need-translate-in-requires-2
 translate-in-requires-2 c κs =
     let s = c .before .before .before .before .before in
-    (s .pre .0, (s .pre .1 .0, (omega (arith, s .pre .0 .sized), s .pre .1 .1)))
+    (s .pre .0, (s .pre .1 .0, (omega (arith, s .pre .0 .sized, starts-are-inputs (s .args .t .now) (s .pre .0)), s .pre .1 .1)))
 
 same-length-2 : tie.Need-same-length-2
 same-length-2 c = search needs

@@ -1,5 +1,6 @@
 -- The trimmed table and its depths are what was put there: laws `trimmed-..`.
 use native.Mathlib.Omega.{arith}
+use Rattle.circuit.proofs.StartLaws.{starts-are-inputs}
 use Rattle.rewriting.specs.declared.run.Run.{Run}
 use Rattle.rewriting.proofs.RunStateLaws.{trimmed-state, trimmed-held, trimmed-depths}
 use borrow.Author.Needs.{needs}
@@ -19,7 +20,7 @@ trim-by-reverse-depths-requires c κs =
     let s = c .before .before .before .before .before .before .before .before .before .before .before .before in
     let w = s .pre .0 in
     let u = s .pre .1 .1 .1 .0 in
-    (w, (u .0, (u .1, (s .pre .1 .1 .0 .0, omega (arith, w .sized, s .pre .1 .1 .1 .1 .1)))))
+    (w, (u .0, (u .1, (s .pre .1 .1 .0 .0, omega (arith, w .sized, starts-are-inputs (s .args .kept .now) w, s .pre .1 .1 .1 .1 .1)))))
 
 same-length : tie.Need-same-length
 same-length c = search needs
