@@ -1,8 +1,8 @@
 -- Starting lines that are right: the walk over them, what each says, and the levels that they give. Assumes nothing.
 use mathlib.Core.Path.{_≡_, refl, sym, ap, _∙_}
-use mathlib.Core.Bool.{Bool, true, false, not, _&&_}
+use mathlib.Core.Bool.{true, false, not, _&&_}
 use mathlib.Core.List.{List, [], _∷_, _++_, map}
-use Prim.Native.Nat.{ℕ, zero, suc, _+_, _*_, _-_, _≤_, _<_}
+use Prim.Native.Nat.{ℕ, zero, suc, _+_, _*_, _≤_, _<_}
 use native.Mathlib.Nat.{not-suc-le-zero, le-of-suc-le-suc}
 use native.Mathlib.Omega.{arith}
 use lib.Dec.{leb, ltb}
@@ -14,9 +14,9 @@ use Rattle.lists.proofs.Tests.{both, left-of, right-of}
 use Rattle.lines.specs.Text.{isPartial}
 use Rattle.circuit.specs.Circuit.{Start, Circuit, startKind, minLevel, maxLevel, constants, firstGate, noStart}
 use Rattle.circuit.specs.Table.{inputs, startRun, starts, gatesFrom, linesOf, startOf, decode, encodeLines, encode}
-use Rattle.circuit.specs.Refusal.{headInLimits, linesAsHeadSays, isStart, startsAscend, startsRight, startsOk, gateKindsOk, closingKindsOk, operandsOk, closingReferencesOk, refusal}
+use Rattle.circuit.specs.Refusal.{headInLimits, linesAsHeadSays, isStart, startsAscend, startsOk, gateKindsOk, closingKindsOk, operandsOk, closingReferencesOk, refusal}
 use Rattle.circuit.specs.Depth.{setLevels, startLevels}
-use Rattle.circuit.specs.Theorems.{StartLines, StartsAreRight, StartsAreInputs, StartsAtLevel, EmptyRun}
+use Rattle.circuit.specs.Theorems.{StartsAreRight, StartsAreInputs, StartsAtLevel, EmptyRun}
 use Rattle.circuit.proofs.TableLaws.{starts-length}
 use Rattle.circuit.proofs.StartRunLaws.{line-front, run-step}
 use Rattle.circuit.proofs.PassLaws.{zeros-at}
@@ -32,34 +32,30 @@ abbrev pub Walked : (t : List ℕ) (top b p : ℕ) → Type 0
 Walked t top b p =
     (p + 3 * startRun (drop p t) ≡ gatesFrom t) × (startsAscend top (suc b) (said (drop p t)) ≡ startsAscend top constants (said (drop 3 t)))
 
-module _ (t : List ℕ) (top : ℕ) where
-  pub walked-none : Walked t top (constants - 1) 3
-  walked-none = (refl, refl)
+module _ (t : List ℕ) (top b p : ℕ) (w : Walked t top b p) where
+  -- no line of the run comes here
+  pub walked-all : startRun (drop p t) ≡ 0 → (p ≡ gatesFrom t) × (true ≡ startsAscend top constants (said (drop 3 t)))
+  unfolding startsAscend linesOf
+  walked-all e = (omega (arith, w .0), rw e at (w .1))
 
-  module _ (b p : ℕ) (w : Walked t top b p) where
-    -- no line of the run comes here
-    pub walked-all : startRun (drop p t) ≡ 0 → (p ≡ gatesFrom t) × (true ≡ startsAscend top constants (said (drop 3 t)))
-    unfolding startsAscend linesOf
-    walked-all e = (omega (arith, w .0), rw e at (w .1))
+  -- a line does
+  module _ (h : p + 2 < length t) (k : getD t p 0 ≡ startKind) where
+    abbrev here : Start
+    here = record { input = getD t (p + 1) 0; level = getD t (p + 2) 0 }
 
-    -- a line does
-    module _ (h : p + 2 < length t) (k : getD t p 0 ≡ startKind) where
-      abbrev here : Start
-      here = record { input = getD t (p + 1) 0; level = getD t (p + 2) 0 }
+    line : said (drop p t) ≡ here ∷ said (drop (p + 3) t)
+    unfolding linesOf
+    line =
+        ap (λ n. map startOf (linesOf n (drop p t))) (run-step t p h k)
+        ∙ ap (λ l. map startOf (linesOf (suc (startRun (drop (p + 3) t))) l)) (line-front t p (omega arith))
 
-      line : said (drop p t) ≡ here ∷ said (drop (p + 3) t)
-      unfolding linesOf
-      line =
-          ap (λ n. map startOf (linesOf n (drop p t))) (run-step t p h k)
-          ∙ ap (λ l. map startOf (linesOf (suc (startRun (drop (p + 3) t))) l)) (line-front t p (omega arith))
+    pub walked-more : isStart top (suc b) here ≡ true → Walked t top (getD t (p + 1) 0) (p + 3)
+    unfolding startsAscend
+    walked-more e = (omega (arith, w .0, run-step t p h k), rw (line, e) at (w .1))
 
-      pub walked-more : isStart top (suc b) here ≡ true → Walked t top (getD t (p + 1) 0) (p + 3)
-      unfolding startsAscend
-      walked-more e = (omega (arith, w .0, run-step t p h k), rw (line, e) at (w .1))
-
-      pub walked-wrong : isStart top (suc b) here ≡ false → false ≡ startsAscend top constants (said (drop 3 t))
-      unfolding startsAscend
-      walked-wrong e = rw (line, e) at (w .1)
+    pub walked-wrong : isStart top (suc b) here ≡ false → false ≡ startsAscend top constants (said (drop 3 t))
+    unfolding startsAscend
+    walked-wrong e = rw (line, e) at (w .1)
 
 -- ---- what a right line says
 

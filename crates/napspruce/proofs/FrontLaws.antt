@@ -10,7 +10,7 @@ use lib.Dec.{eqb, leb}
 use lib.ListN.{length, getD}
 use lib.Seq.{length-take-le, take-all, getD-take}
 use borrow.Author.Tests.{ne-eqb, leb-true}
-use Rattle.lists.proofs.Tests.{left-of, right-of}
+use Rattle.lists.proofs.Tests.{left-of}
 use Rattle.lines.specs.Text.{isPartial}
 use Rattle.rules.specs.Rule.{maxRules}
 use Rattle.rules.specs.RuleTable.{ruleCount, rulesFrom, nextRule}

@@ -7,7 +7,7 @@ use native.Mathlib.Nat.{le-trans, not-suc-le-zero, le-of-suc-le-suc}
 use native.Mathlib.Omega.{arith}
 use lib.ListN.{length, drop, getD, replicate, length-replicate}
 use lib.Seq.{drop-cons, drop-length, take-length}
-use Rattle.circuit.specs.Circuit.{constants, firstGate, references, noGate}
+use Rattle.circuit.specs.Circuit.{constants, references, noGate}
 use Rattle.circuit.specs.Evaluation.{bitOp, bitOf, startBits}
 use Rattle.circuit.specs.Table.{inputs, decode}
 use Rattle.circuit.specs.Depth.{startLevels, largest, circuitDepth}

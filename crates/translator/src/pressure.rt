@@ -1,6 +1,6 @@
 // The need, 01's word for the register pressure, counted in one pass over the gates (01, Register program, 10).
 ghost use mathlib.Core.Path.{_≡_};
-ghost use Prim.Native.Nat.{ℕ, _+_, _<_, max};
+ghost use Prim.Native.Nat.{ℕ, _+_, _<_};
 ghost use lib.ListN.{length, getD};
 ghost use Rattle.circuit.specs.Circuit.{noGate, maxReferences};
 ghost use Rattle.circuit.specs.Table.{gates, gatesFrom, gateLines, decode};

@@ -2,7 +2,6 @@
 use native.Mathlib.Omega.{arith}
 use Prim.Native.Nat.{suc}
 use borrow.Author.Tests.{le-leb, lt-leb, lt-ltb, le-ltb}
-use borrow.Author.Needs.{needs}
 use Rattle.circuit.proofs.checking.is_start.Statement.{statement}
 use Rattle.circuit.proofs.checking.is_start.Tie as tie
 

@@ -1,5 +1,5 @@
 -- Law `run-fits`: the starting lines are within the table, so that the sum is within a usize.
-use mathlib.Core.Path.{_≡_, ap}
+use mathlib.Core.Path.{ap}
 use Prim.Native.Nat.{_+_, _*_}
 use native.Mathlib.Omega.{arith}
 use lib.Dec.{eqb}

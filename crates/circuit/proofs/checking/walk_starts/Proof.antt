@@ -9,7 +9,7 @@ use Rattle.circuit.specs.Circuit.{constants, firstGate}
 use Rattle.circuit.specs.Table.{inputs, decode}
 use Rattle.circuit.specs.Refusal.{startsAscend, startsOk}
 use Rattle.circuit.proofs.StartRunLaws.{run-stop, run-end}
-use Rattle.circuit.proofs.StartLaws.{Walked, walked-none, walked-more, walked-wrong, walked-all}
+use Rattle.circuit.proofs.StartLaws.{Walked, walked-more, walked-wrong, walked-all}
 use borrow.Author.Needs.{needs}
 use Rattle.circuit.proofs.checking.walk_starts.Statement.{statement}
 use Rattle.circuit.proofs.checking.walk_starts.Tie as tie

@@ -1,6 +1,5 @@
 -- By the definition of `raise`: one store, of what `larger` gives.
 use mathlib.Core.Path.{ap}
-use Prim.Native.Nat.{_-_}
 use lib.ListN.{set}
 use borrow.Author.Needs.{needs}
 use Rattle.circuit.proofs.reverse_depth.raise_place.Statement.{statement}

@@ -1,7 +1,6 @@
 -- Five parts make the table: laws `replace-stores`, `replace-room` and `replace-end`; what was read of the right side is within its limits.
 use mathlib.Core.Path.{_≡_, _∙_}
 use mathlib.Core.Bool.{true}
-use Prim.Native.Nat.{_-_}
 use native.Mathlib.Omega.{arith}
 use lib.ListN.{drop}
 use Rattle.circuit.specs.Table.{linesOf}

@@ -1,6 +1,6 @@
 -- Neither bit is shifted out: law `shift-one`.
 use mathlib.Core.Path.{ap}
-use Prim.Native.Nat.{_-_, _^_, _≤_}
+use Prim.Native.Nat.{_-_, _^_}
 use lib.Pow.{pow-mono}
 use borrow.Author.Needs.{needs}
 use Rattle.circuit.specs.Circuit.{constants}

@@ -2,12 +2,12 @@
 use mathlib.Core.List.{List}
 use mathlib.Core.Bool.{true}
 use mathlib.Core.Path.{_≡_, sym, ap, _∙_}
-use Prim.Native.Nat.{ℕ, _-_, _<_, _≤_}
+use Prim.Native.Nat.{ℕ, _<_, _≤_}
 use native.Mathlib.Omega.{arith}
 use lib.ListN.{length}
 use borrow.Author.Tests.{not-true, not-false}
 use Rattle.rules.specs.RuleRefusal.{ruleInLimits, walk, rulesRefusal}
-use Rattle.rules.specs.RuleTable.{ruleCount, rulesFrom}
+use Rattle.rules.specs.RuleTable.{ruleCount}
 use Rattle.rules.proofs.RefusalLaws.{whole-lines, rules-walk, testedFrom, tested-top, tested-found, tested-more, tested-end}
 use Rattle.rules.proofs.WalkLaws.{limited-of, sized-of, walk-short, walk-limits, walk-long, walk-over, walk-head}
 use borrow.Author.Needs.{needs}
