@@ -15,7 +15,7 @@ use Rattle.circuit.specs.Trim.{renameGate, rank, keepGates, isKept}
 use Rattle.circuit.proofs.RankLaws.{rank-suc, rank-same, rank-mono}
 
 -- a gate is kept exactly if it is live
-gate-kept : (c : Circuit) (v : ℕ) → firstGate (c .inputs) ≤ v → isKept c v ≡ isLive c v
+pub gate-kept : (c : Circuit) (v : ℕ) → firstGate (c .inputs) ≤ v → isKept c v ≡ isLive c v
 gate-kept c v h = rw (le-ltb v (firstGate (c .inputs)) h)
 
 pub live-count : (c : Circuit) (n : ℕ) (gs : List Gate) → firstGate (c .inputs) ≤ n → length (keepGates (isKept c) n gs) ≡ countGates (λ v g. isLive c v) n gs

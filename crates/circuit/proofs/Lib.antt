@@ -20,6 +20,7 @@ pub mod DepthLaws
 pub mod CriticalLaws
 pub mod TrimmingLaws
 pub mod KeptDepthLaws
+pub mod OldNumberLaws
 pub mod MeasureLaws
 pub mod TrimTheorems
 pub mod FrontLaws

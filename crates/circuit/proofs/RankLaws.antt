@@ -72,6 +72,20 @@ module _ (kept : ℕ → Bool) where
             | no l ↦ let m : b < a = omega arith in omega (arith, rank-lt b a q m)
           ]
 
+  -- each new number is that of a reference that is kept
+  pub rank-onto : (n v : ℕ) → v < rank kept n → (w : ℕ) × (w < n) × (kept w ≡ true) × (rank kept w ≡ v)
+  rank-onto zero v h = let z : ⊥ = omega (arith, rank-none) in absurd z
+  rank-onto (suc n) v h = go (kept n) refl (ℕ-discrete (rank kept n) v) (rank-onto n v)
+    where
+      earlier : (w : ℕ) × (w < n) × (kept w ≡ true) × (rank kept w ≡ v) → (w : ℕ) × (w < suc n) × (kept w ≡ true) × (rank kept w ≡ v)
+      earlier (w, l, k, e) = (w, omega arith, k, e)
+
+      go : (b : Bool) → kept n ≡ b → Dec (rank kept n ≡ v) → (v < rank kept n → (w : ℕ) × (w < n) × (kept w ≡ true) × (rank kept w ≡ v))
+          → (w : ℕ) × (w < suc n) × (kept w ≡ true) × (rank kept w ≡ v)
+      go true k (yes e) ih = (n, omega arith, k, e)
+      go true k (no d) ih = earlier (ih (omega (arith, rank-suc n k)))
+      go false k d ih = earlier (ih (omega (arith, rank-same n k)))
+
   -- below the first reference that goes, numbers stay
   pub rank-id : (n : ℕ) → ((r : ℕ) → r < n → kept r ≡ true) → rank kept n ≡ n
   rank-id zero f = rank-none

@@ -2,27 +2,30 @@
 use mathlib.Core.Path.{_≡_, refl, sym, ap, ap₂, _∙_}
 use mathlib.Core.Bool.{Bool, true, false, true≢false, and-false}
 use mathlib.Core.List.{List, [], _∷_, map}
-use Prim.Native.Nat.{ℕ, _+_, _-_, _<_}
+use Prim.Native.Nat.{ℕ, _+_, _-_, _≤_, _<_}
 use native.Mathlib.Decide.{decLt}
 use native.Mathlib.Omega.{arith}
-use lib.Dec.{eqb, ltb}
-use lib.ListN.{length, getD, length-map}
-use borrow.Author.Tests.{eqb-true}
+use lib.Dec.{eqb, leb, ltb}
+use lib.ListN.{length, getD, length-map, List·getD-eq-default}
+use borrow.Author.Tests.{eqb-true, leb-true, ltb-true, le-leb, lt-leb, lt-ltb}
 use Rattle.lists.specs.First.{first}
-use Rattle.circuit.specs.Circuit.{Gate, Circuit, noGate, andKind, firstGate, references}
+use Rattle.lists.proofs.Tests.{left-of, right-of}
+use Rattle.circuit.specs.Circuit.{Gate, Circuit, noGate, andKind, firstGate, references, gateAt}
 use Rattle.circuit.specs.Each.{countGates, EachGate}
 use Rattle.circuit.specs.Refusal.{hasGateKind}
 use Rattle.circuit.specs.Fold.{foldGates, atOutputs}
 use Rattle.circuit.specs.Evaluation.{bitOp, bitOf, startBits, bits, evaluate}
 use Rattle.circuit.specs.Depth.{depthOp, startLevels, depths, depth, largest, circuitDepth}
-use Rattle.circuit.specs.Path.{isAmong}
-use Rattle.circuit.specs.ReverseDepth.{reverseDepth, isLive}
+use Rattle.circuit.specs.Path.{isAmong, isGate}
+use Rattle.circuit.specs.ReverseDepth.{reverseDepths, reverseDepth, isLive}
 use Rattle.circuit.specs.Critical.{isCritical, criticalCount}
 use Rattle.circuit.specs.Trim.{renameGate, rank, keepGates, isKept, trim}
 use Rattle.circuit.proofs.EachLaws.{each-at, each-of, each-map}
 use Rattle.circuit.proofs.StartLaws.{start-length}
 use Rattle.circuit.proofs.ValidLaws.{Valid, Limited, among-head, among-tail}
-use Rattle.circuit.proofs.RankLaws.{rank-id, rank-lt, rank-eqb, keep-count, keep-length, each-keep, count-keep, keep-ordered, keep-value, keep-all}
+use Rattle.circuit.proofs.RankLaws.{rank-mono, rank-id, rank-lt, rank-eqb, keep-count, keep-length, each-keep, count-keep, keep-ordered, keep-value, keep-all}
+use Rattle.circuit.proofs.KeptLaws.{keep-at}
+use Rattle.circuit.proofs.BoundLaws.{reverse-length}
 use Rattle.circuit.proofs.ReverseDepthLaws.{raised, marked, reverse-at, keep-raised, kept-low, kept-live, kept-gate, gone-zero, live-output, kept-closed}
 
 -- ---- members of a mapped list
@@ -59,13 +62,67 @@ module _ (c : Circuit) (ok : Valid c) where
   kept-output : (o : ℕ) → isAmong o (c .outputs) ≡ true → isKept c o ≡ true
   kept-output o e = kept-live c o (live-output c ok o e)
 
-  pub rank-first : rank (isKept c) (firstGate (c .inputs)) ≡ firstGate (c .inputs)
+  rank-first : rank (isKept c) (firstGate (c .inputs)) ≡ firstGate (c .inputs)
   rank-first = rank-id (isKept c) (firstGate (c .inputs)) (kept-low c)
 
   -- how many references are left
   pub trim-references : references (trim c) ≡ rank (isKept c) (references c)
   unfolding trim
   trim-references = omega (arith, rank-first, keep-count (isKept c) (firstGate (c .inputs)) (c .gates))
+
+  -- ---- a reference that is kept, under its new number
+
+  pub kept-below : (v : ℕ) → isKept c v ≡ true → v < references c
+  kept-below v k =
+      elim (decLt v (references c)) [
+        | yes h ↦ h
+        | no h ↦
+            let dead : isLive c v ≡ false = ap (ltb 0) (List·getD-eq-default (reverseDepths c) 0 (omega (arith, reverse-length c))) in
+            absurd (true≢false (sym (kept-gate c v (omega arith) k) ∙ dead))
+      ]
+
+  pub trim-is-gate : (v : ℕ) → isKept c v ≡ true → isGate (trim c) (rank (isKept c) v) ≡ isGate c v
+  unfolding trim
+  trim-is-gate v k =
+      let n = firstGate (c .inputs) in
+      let below = kept-below v k in
+      let rank-below : rank (isKept c) v < references (trim c) = omega (arith, trim-references, rank-lt (isKept c) v (references c) k below) in
+      elim (decLt v n) [
+        | yes h ↦ rw (rank-id (isKept c) v (λ r l. kept-low c r (omega arith)), lt-leb n v h)
+        | no h ↦
+            rw (
+              le-leb n v (omega arith),
+              le-leb n (rank (isKept c) v) (omega (arith, rank-first, rank-mono (isKept c) n v (omega arith))),
+              lt-ltb v (references c) below,
+              lt-ltb (rank (isKept c) v) (references (trim c)) rank-below,
+            )
+      ]
+
+  module _ (v : ℕ) (g : isGate c v ≡ true) (k : isKept c v ≡ true) where
+    from : firstGate (c .inputs) ≤ v
+    from = leb-true (firstGate (c .inputs)) v (left-of (leb (firstGate (c .inputs)) v) (ltb v (references c)) g)
+
+    to : v < references c
+    to = ltb-true v (references c) (right-of (leb (firstGate (c .inputs)) v) (ltb v (references c)) g)
+
+    split : firstGate (c .inputs) + (v - firstGate (c .inputs)) ≡ v
+    split = omega (arith, from)
+
+    pub trim-gate : gateAt (trim c) (rank (isKept c) v) ≡ renameGate (rank (isKept c)) (gateAt c v)
+    unfolding trim
+    trim-gate =
+        let n = firstGate (c .inputs) in
+        let kept = isKept c in
+        let r : rank kept (n + (v - n)) ≡ rank kept n + (rank kept v - n) = omega (arith, ap (rank kept) split, rank-first, rank-mono kept n v from) in
+        keep-at kept n (c .gates) (v - n) (rank kept v - n) (omega (arith, from, to)) (ap kept split ∙ k) r
+
+    pub operands-kept : (isKept c (gateAt c v .left) ≡ true) × (isKept c (gateAt c v .right) ≡ true)
+    operands-kept =
+        let n = firstGate (c .inputs) in
+        each-at (λ m x. isKept c m ≡ true → (isKept c (x .left) ≡ true) × (isKept c (x .right) ≡ true)) n (c .gates) (kept-closed c ok) (v - n) (omega (arith, from, to))
+        (ap (isKept c) split ∙ k)
+
+  -- ---- the circuit
 
   pub trim-valid : Valid (trim c)
   unfolding trim

@@ -1,18 +1,17 @@
 -- The theorems on trimming, of tables. Assumes nothing.
 use mathlib.Core.Path.{_≡_, sym, ap, ap₂, _∙_}
-use mathlib.Core.Bool.{true, or-true}
+use mathlib.Core.Bool.{true}
 use mathlib.Core.List.{List, [], _∷_}
-use Prim.Native.Nat.{ℕ, _+_, _-_, _≤_, _<_}
+use Prim.Native.Nat.{ℕ, _+_, _-_}
 use native.Mathlib.Omega.{arith}
-use lib.Dec.{leb, ltb}
+use lib.Dec.{ltb}
 use lib.ListN.{length, length-map}
-use borrow.Author.Tests.{eqb-true, leb-true, ltb-true, not-false}
-use Rattle.lists.proofs.Tests.{left-of, right-of}
+use borrow.Author.Tests.{eqb-true, not-false}
 use Rattle.lines.specs.Refusal.{gives, noTable}
 use Rattle.lines.specs.Checks.{answering, afterwards}
 use Rattle.lines.specs.Calls.{over}
 use Rattle.lines.proofs.CheckLaws.{check-passed, outcome-same}
-use Rattle.circuit.specs.Circuit.{Circuit, firstGate, references, gateAt}
+use Rattle.circuit.specs.Circuit.{Circuit, firstGate, gateAt}
 use Rattle.circuit.specs.Table.{inputs, outputs, gateLines, decode, encode}
 use Rattle.circuit.specs.WellFormed.{WellFormed}
 use Rattle.circuit.specs.Evaluation.{evaluate}
@@ -28,9 +27,10 @@ use Rattle.circuit.proofs.RefusalLaws.{whole, well-formed-accepted}
 use Rattle.circuit.proofs.EncodingLaws.{decode-after-encode, encode-inputs, encode-gates, encode-outputs}
 use Rattle.circuit.proofs.ValidLaws.{valid-decode, limited-decode, well-formed-encode}
 use Rattle.circuit.proofs.MeasureLaws.{measurement-well-formed}
-use Rattle.circuit.proofs.RankLaws.{rank-mono, keep-length}
-use Rattle.circuit.proofs.KeptLaws.{live-count, keep-at}
-use Rattle.circuit.proofs.TrimLaws.{rank-first, trim-valid, trim-limited, trim-evaluate, trim-depth, trim-circuit-depth, trim-reverse-depth, trim-critical-count, trim-live, trim-trim}
+use Rattle.circuit.proofs.RankLaws.{keep-length}
+use Rattle.circuit.proofs.ReverseDepthLaws.{kept-live}
+use Rattle.circuit.proofs.KeptLaws.{live-count}
+use Rattle.circuit.proofs.TrimLaws.{trim-gate, trim-valid, trim-limited, trim-evaluate, trim-depth, trim-circuit-depth, trim-reverse-depth, trim-critical-count, trim-live, trim-trim}
 
 -- the trimmed table says the trimmed circuit
 pub decode-trim : (t : List ℕ) → WellFormed t → decode (trimOf t) ≡ trim (decode t)
@@ -58,16 +58,7 @@ pub trim-keeps-gates : TrimKeepsGates
 unfolding trim
 trim-keeps-gates t w = (
   encode-gates (trim (decode t)) ∙ live-count (decode t) (firstGate (inputs t)) (gateLines t) (omega arith),
-  λ v g l.
-      let c = decode t in
-      let n = firstGate (inputs t) in
-      let kept = isKept c in
-      let low : n ≤ v = leb-true n v (left-of (leb n v) (ltb v (references c)) g) in
-      let high : v < references c = ltb-true v (references c) (right-of (leb n v) (ltb v (references c)) g) in
-      let split : n + (v - n) ≡ v = omega arith in
-      let k : kept (n + (v - n)) ≡ true = ap kept split ∙ rw (l, or-true) in
-      let r : rank kept (n + (v - n)) ≡ rank kept n + (rank kept v - n) = omega (arith, ap (rank kept) split, rank-first c (valid-decode t w), rank-mono kept n v low) in
-      ap (λ d. gateAt d (rank kept v)) (decode-trim t w) ∙ keep-at kept n (gateLines t) (v - n) (rank kept v - n) (omega arith) k r,
+  λ v g l. ap (λ d. gateAt d (rank (isKept (decode t)) v)) (decode-trim t w) ∙ trim-gate (decode t) (valid-decode t w) v g (kept-live (decode t) v l),
 )
 
 pub trim-keeps-outputs : TrimKeepsOutputs

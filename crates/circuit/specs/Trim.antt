@@ -1,12 +1,12 @@
 -- 01, Circuits, 8: trimming takes the dead gates out; the others keep their order and are renumbered. The starting lines stay (02, 2026-01).
 -- That live is 01's: `LiveIsReached` in Theorems.antt.
 use Prim.Native.Nat.{ℕ, zero, suc, _+_}
-use mathlib.Core.Bool.{Bool, _||_}
+use mathlib.Core.Bool.{Bool, _&&_, _||_}
 use mathlib.Core.List.{List, [], _∷_, map}
-use lib.Dec.{ltb}
+use lib.Dec.{eqb, ltb}
 use lib.ListN.{getD}
 use Rattle.lists.specs.First.{first}
-use Rattle.circuit.specs.Circuit.{Gate, Circuit, firstGate, noGate}
+use Rattle.circuit.specs.Circuit.{Gate, Circuit, firstGate, references, noGate}
 use Rattle.circuit.specs.Table.{decode, encode}
 use Rattle.circuit.specs.ReverseDepth.{isLive}
 
@@ -31,6 +31,15 @@ isKept c v = ltb v (firstGate (c .inputs)) || isLive c v
 -- the number of reference v in the trimmed circuit
 abbrev pub newNumber : Circuit → (v : ℕ) → ℕ
 newNumber c = rank (isKept c)
+
+-- of the first n references, the one that is kept and has the new number v; `beyond` if there is none
+unfoldable pub oldBelow : (kept : ℕ → Bool) (beyond v : ℕ) → (n : ℕ) → ℕ
+oldBelow kept beyond v zero = beyond
+oldBelow kept beyond v (suc n) = first (kept n && eqb (rank kept n) v) n (oldBelow kept beyond v n)
+
+-- the reference whose number in the trimmed circuit is v; one beyond the circuit if there is none
+abbrev pub oldNumber : Circuit → (v : ℕ) → ℕ
+oldNumber c v = oldBelow (isKept c) (references c) v (references c)
 
 -- gate i of the circuit, renumbered
 abbrev pub renumberedGate : Circuit → (i : ℕ) → Gate

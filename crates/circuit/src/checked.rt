@@ -31,6 +31,7 @@ pub use crate::table::closings_from;
 pub use crate::table::gate_line;
 pub use crate::table::gates_from;
 pub use crate::table::output_reference;
+pub use crate::trimming::old_number;
 pub use crate::trimming::trim;
 pub use crate::trimming::trim_by_reverse_depths;
 pub use crate::trimming::trim_depths;

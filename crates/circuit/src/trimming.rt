@@ -10,7 +10,7 @@ ghost use Rattle.circuit.specs.Table.{inputs, gates, outputs, refs, gate
 ghost use Rattle.circuit.specs.WellFormed.{WellFormed};
 ghost use Rattle.circuit.specs.Depth.{depths};
 ghost use Rattle.circuit.specs.ReverseDepth.{reverseDepths};
-ghost use Rattle.circuit.specs.Trim.{newNumber, renumberedGate, trimmedGates, trimmedOutputs, trim, trimOf};
+ghost use Rattle.circuit.specs.Trim.{newNumber, oldNumber, renumberedGate, trimmedGates, trimmedOutputs, trim, trimOf};
 use crate::copying::copy_over;
 use crate::reverse_depth::reverse_depths;
 use crate::table::CLOSING;
@@ -179,4 +179,55 @@ pub fn trim_depths(t: &[u32], u: &[u32], d: &[u32], out: &mut [u32])
             v += 1;
         }
     }
+}
+
+// The reference whose number in the trimmed circuit is v; one beyond the circuit if there is none.
+pub fn old_number(t: &[u32], v: u32) -> u32
+    requires { ⌜ WellFormed (now t) ⌝ }
+    ensures { λ r. ⌜ r ≡ oldNumber (decode (now (t .entry))) v ⌝ }
+{
+    if first_gate(t) as usize + t[1] as usize <= SMALL_REFERENCES {
+        let mut u = [0u32; SMALL_REFERENCES];
+        return old_number_in(t, &mut u, v);
+    }
+    let mut u = [0u32; MAX_REFERENCES];
+    old_number_in(t, &mut u, v)
+}
+
+// The same in a lent array, for the reverse depths.
+fn old_number_in(t: &[u32], u: &mut [u32], v: u32) -> u32
+    requires { ⌜ WellFormed (now t) ⌝ }
+    requires { ⌜ refs (now t) ≤ length (now u) ⌝ }
+    ensures { λ r. ⌜ r ≡ oldNumber (decode (now (t .entry))) v ⌝ }
+{
+    reverse_depths(t, u);
+    old_by_reverse_depths(t, u, v)
+}
+
+// The same, where u begins with the reverse depths.
+fn old_by_reverse_depths(t: &[u32], u: &[u32], v: u32) -> u32
+    requires { ⌜ WellFormed (now t) ⌝ }
+    requires { ⌜ refs (now t) ≤ length (now u) ⌝ }
+    requires { ⌜ take (refs (now t)) (now u) ≡ reverseDepths (decode (now t)) ⌝ }
+    ensures { λ r. ⌜ r ≡ oldNumber (decode (now (t .entry))) v ⌝ }
+{
+    let first = first_gate(t);
+    if v < first {
+        return v;
+    }
+    let refs = first + t[1];
+    let mut next = first;
+    let mut w = first;
+    while w < refs {
+        if 0 < u[w as usize] {
+            if next == v {
+                return w;
+            }
+            next += 1;
+            w += 1;
+        } else {
+            w += 1;
+        }
+    }
+    w
 }

@@ -8,6 +8,7 @@ pub mod SiteLaws
 pub mod SoundnessLaws
 pub mod SideLaws
 pub mod MatchLaws
+pub mod TrimmedLaws
 pub mod VerdictLaws
 pub mod JudgedLaws
 pub mod SubstitutionLaws

@@ -2,9 +2,8 @@
 ghost use mathlib.Core.Path.{_≡_};
 ghost use Prim.Native.Nat.{_≤_};
 ghost use lib.Dec.{eqb};
-ghost use lib.ListN.{length};
 ghost use Rattle.lists.specs.First.{first};
-ghost use Rattle.circuit.specs.Table.{tableEnd, decode};
+ghost use Rattle.circuit.specs.Table.{decode};
 ghost use Rattle.circuit.specs.Trim.{trimOf};
 ghost use Rattle.circuit.specs.WellFormed.{WellFormed};
 ghost use Rattle.rules.specs.Match.{unbound};
@@ -21,9 +20,7 @@ use crate::matching::match_at;
 use crate::table::BINDINGS;
 use circuit::checked::CONSTANTS;
 use circuit::checked::LAST_REFERENCE;
-use circuit::checked::MAX_TABLE;
-use circuit::checked::SMALL_TABLE;
-use circuit::checked::trim;
+use circuit::checked::old_number;
 
 // What reference v is. A range's bounds are constants, so that the bounds that vary from circuit to circuit are tested in its arm.
 fn kind_of(c: &[u32], v: u32) -> ReferenceKind
@@ -96,34 +93,12 @@ fn match_verdict(c: &[u32], t: &[u32], rule: u32, gate: u32, mask: u32) -> u32
     match_judged(c, t, judged.place, judged.verdict, gate, mask, &mut b)
 }
 
-// The first verdict that applies in the trimmed circuit, else PASSES.
+// The first verdict that applies in the trimmed circuit, else PASSES. A match at a live gate binds live gates and their operands alone, so
+// that it is looked for in the circuit as it is, at the reference whose number in the trimmed one is the site's gate.
 pub fn trimmed_verdict(c: &[u32], t: &[u32], rule: u32, gate: u32, mask: u32) -> u32
     requires { ⌜ WellFormed (now c) ⌝ }
     requires { ⌜ WellFormedRules (now t) ⌝ }
     ensures { λ r. ⌜ r ≡ matchSite (decode (trimOf (now (c .entry)))) (now (t .entry)) rule gate mask .verdict ⌝ }
 {
-    if c.len() <= SMALL_TABLE {
-        let mut work = [0u32; SMALL_TABLE];
-        return trimmed_verdict_in(c, t, rule, gate, mask, &mut work);
-    }
-    let mut work = [0u32; MAX_TABLE];
-    trimmed_verdict_in(c, t, rule, gate, mask, &mut work)
-}
-
-// The same in a lent array, for the trimmed circuit's table.
-fn trimmed_verdict_in(
-    c: &[u32],
-    t: &[u32],
-    rule: u32,
-    gate: u32,
-    mask: u32,
-    work: &mut [u32],
-) -> u32
-    requires { ⌜ WellFormed (now c) ⌝ }
-    requires { ⌜ WellFormedRules (now t) ⌝ }
-    requires { ⌜ tableEnd (now c) ≤ length (now work) ⌝ }
-    ensures { λ r. ⌜ r ≡ matchSite (decode (trimOf (now (c .entry)))) (now (t .entry)) rule gate mask .verdict ⌝ }
-{
-    let end = trim(c, work);
-    match_verdict(&work[..end], t, rule, gate, mask)
+    match_verdict(c, t, rule, old_number(c, gate), mask)
 }

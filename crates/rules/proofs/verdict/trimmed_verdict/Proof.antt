@@ -1,39 +1,25 @@
--- Either array is as long as the table at least, and the rest is `trimmed_verdict_in`.
-use native.Mathlib.Omega.{arith}
-use Rattle.circuit.proofs.StartLaws.{starts-are-inputs}
+-- What `match_verdict` finds at the old number is what there is in the trimmed circuit: law `trimmed-site`.
+use mathlib.Core.Path.{ap, _∙_}
+use Rattle.circuit.specs.Table.{decode}
+use Rattle.rules.specs.Verdict.{matchSite}
+use Rattle.rules.proofs.TrimmedLaws.{trimmed-site}
 use borrow.Author.Needs.{needs}
 use Rattle.rules.proofs.verdict.trimmed_verdict.Statement.{statement}
 use Rattle.rules.proofs.verdict.trimmed_verdict.Tie as tie
 
-slice-aggregate-trimmed-verdict-in : tie.Need-slice-aggregate-trimmed-verdict-in
-slice-aggregate-trimmed-verdict-in c = search needs
+old-number-requires : tie.Need-old-number-requires
+old-number-requires c κs = search needs
 
-trimmed-verdict-in-requires : tie.Need-trimmed-verdict-in-requires
-trimmed-verdict-in-requires c κs =
-    let s = c .before .before .before .before in
-    (s .pre .0, (s .pre .1, omega (arith, s .pre .0 .sized, c .before .if1 .taken)))
+match-verdict-requires : tie.Need-match-verdict-requires
+match-verdict-requires c κs = search needs
 
 returns : tie.Need-returns
-returns c = search needs
-
-slice-aggregate-trimmed-verdict-in-2 : tie.Need-slice-aggregate-trimmed-verdict-in-2
-slice-aggregate-trimmed-verdict-in-2 c = search needs
-
-trimmed-verdict-in-requires-2 : tie.Need-trimmed-verdict-in-requires-2
-trimmed-verdict-in-requires-2 c κs =
+returns c =
     let s = c .before .before .before .before in
-    (s .pre .0, (s .pre .1, omega (arith, s .pre .0 .sized, starts-are-inputs (s .args .c .now) (s .pre .0))))
-
-returns-2 : tie.Need-returns-2
-returns-2 c = search needs
+    let a = s .args in
+    c .match-verdict .ensures
+    ∙ (ap (λ v. matchSite (decode (a .c .now)) (a .t .now) (a .rule) v (a .mask) .verdict) (c .before .old-number .ensures)
+    ∙ trimmed-site (a .c .now) (s .pre .0) (a .t .now) (a .rule) (a .gate) (a .mask))
 
 pub trimmed-verdict-spec : {M : Type 1} → statement M
-trimmed-verdict-spec =
-    tie.close
-    (tie.spec
-    slice-aggregate-trimmed-verdict-in
-    trimmed-verdict-in-requires
-    returns
-    slice-aggregate-trimmed-verdict-in-2
-    trimmed-verdict-in-requires-2
-    returns-2)
+trimmed-verdict-spec = tie.close (tie.spec old-number-requires match-verdict-requires returns)
