@@ -76,6 +76,19 @@ static void compare(const uint32_t *rewritten, size_t count)
     }
 }
 
+/* The rule matches at the last gate as it is written, which takes a trial a left gate; examples/planner.c has a search that takes more. */
+static void find(void)
+{
+    uint64_t r = accepted("find", napspruce_find(circuit, COUNT(circuit), rules, COUNT(rules), 1, 8, 3));
+    expect("mask", NAPSPRUCE_OUTCOME(r) == NAPSPRUCE_MASK_FOUND && NAPSPRUCE_MASK(r) == 0);
+    expect("three ways", NAPSPRUCE_WAYS(r) == 3);
+    r = accepted("find", napspruce_find(circuit, COUNT(circuit), rules, COUNT(rules), 1, 8, 2));
+    expect("two ways are spent", NAPSPRUCE_OUTCOME(r) == NAPSPRUCE_SPENT && NAPSPRUCE_WAYS(r) == 2);
+    r = accepted("find", napspruce_find(circuit, COUNT(circuit), rules, COUNT(rules), 1, 7, 65535));
+    expect("no mask at gate 7", NAPSPRUCE_OUTCOME(r) == NAPSPRUCE_NO_MASK);
+    expect("no way is refused with 12", napspruce_find(circuit, COUNT(circuit), rules, COUNT(rules), 1, 8, 0) == 1000120);
+}
+
 /* The circuit for a machine of three registers; it needs so many. */
 static void translate(const uint32_t *table, size_t count)
 {
@@ -135,6 +148,7 @@ int main(void)
     uint64_t pair = accepted("measure", napspruce_measure(circuit, COUNT(circuit)));
     expect("judge", accepted("judge", napspruce_judge(rules, COUNT(rules), 1)) == 0);
     expect("match", accepted("match", napspruce_match(circuit, COUNT(circuit), rules, COUNT(rules), 1, 8, 0)) == 0);
+    find();
 
     uint64_t r = accepted("rewrite", napspruce_rewrite(circuit, COUNT(circuit), rules, COUNT(rules), sites, COUNT(sites),
                                                        result, COUNT(result), work, COUNT(work), verdicts, COUNT(verdicts)));

@@ -26,8 +26,9 @@
  *    9  the register limit is not 1 to 1,024
  *   10  the need, which is the most values held at once, exceeds the limit
  *   11  a starting line's reference is not an input or not above that of the line before, or its level is not 1 to 255; tested right after 5
+ *   12  the limit of ways is not 1 to 65,535
  *
- * and its table: 1 circuit, 2 rules, 3 sites, or 0 where the fault lies in none of these: 2, 9, 10, the evaluator's bytes, and a text or table
+ * and its table: 1 circuit, 2 rules, 3 sites, or 0 where the fault lies in none of these: 2, 9, 10, 12, the evaluator's bytes, and a text or table
  * read or written by itself.
  */
 #ifndef NAPSPRUCE_H
@@ -52,6 +53,16 @@
 /* The results of napspruce_measure. */
 #define NAPSPRUCE_DEPTH(r) ((uint32_t)((r) >> 32))
 #define NAPSPRUCE_CRITICAL(r) ((uint32_t)(r))
+
+/* The results of napspruce_find: the outcome, which is NAPSPRUCE_MASK_FOUND, a verdict from 1 to 3, NAPSPRUCE_NO_MASK or NAPSPRUCE_SPENT; the
+ * mask; and the ways tried. */
+#define NAPSPRUCE_OUTCOME(r) ((uint32_t)((r) >> 16 & 65535))
+#define NAPSPRUCE_MASK(r) ((uint32_t)((r) & 65535))
+#define NAPSPRUCE_WAYS(r) ((uint32_t)((r) >> 32))
+
+#define NAPSPRUCE_MASK_FOUND 0
+#define NAPSPRUCE_NO_MASK 4
+#define NAPSPRUCE_SPENT 5
 
 /* The results of napspruce_rewrite. */
 #define NAPSPRUCE_OLD_DEPTH(r) ((uint32_t)((r) >> 48))
@@ -97,6 +108,18 @@ uint64_t napspruce_judge(const uint32_t *rules, size_t rules_len, uint32_t rule)
  * Refusals: 1 of the circuit, 1 of the rules; 4, 5, 11, 6, 7 of the circuit; 4 to 8 of the rules. */
 uint64_t napspruce_match(const uint32_t *circuit, size_t circuit_len, const uint32_t *rules, size_t rules_len,
                          uint32_t rule, uint32_t gate, uint32_t mask);
+
+/* Looks for the mask by which a rule matches at a gate of the trimmed circuit. Left gates are tried from the last to the first, each as it is
+ * written, then crosswise; what is left of the rule is tried from there, if that gate's part of the match holds. Each such trial is one way,
+ * also one that fails, and the search ends at its first match. `limit` is the most ways that it may have, from 1 to 65,535; a rule of n left
+ * gates takes 2 to the power n + 1, less 2, at most, so that 65,535 is always enough. Gives one of
+ *   NAPSPRUCE_MASK_FOUND, the smallest mask that matches, and the ways tried: napspruce_match gives 0 for that mask, 4 for every smaller one;
+ *   1, 2 or 3 as napspruce_match does, whatever the mask, with mask 0 and 0 ways;
+ *   NAPSPRUCE_NO_MASK, mask 0 and the ways tried: napspruce_match gives 4 for every mask;
+ *   NAPSPRUCE_SPENT, mask 0 and the limit: the search has more ways than that.
+ * Refusals: 1 of the circuit, 1 of the rules; 4, 5, 11, 6, 7 of the circuit; 4 to 8 of the rules; 12. */
+uint64_t napspruce_find(const uint32_t *circuit, size_t circuit_len, const uint32_t *rules, size_t rules_len,
+                        uint32_t rule, uint32_t gate, uint32_t limit);
 
 /* Trims the circuit and rewrites it at the sites in order. Its table is then in `result`, with the numbers of its gates and outputs in
  * result[1] and result[2], and with the starting lines of `circuit` right after the head: only its gates may be more or fewer than those of

@@ -62,17 +62,18 @@ impl<'a> Job<'a> {
     }
 }
 
-/// The jobs on the workloads of one size: all four are rewritten, the first is
-/// for the other calls too, and the one with starting lines is also measured
-/// and translated.
-pub fn of_workloads(workloads: &[Workload; 4]) -> Vec<Job<'_>> {
-    let [random, levels, chain, mismatch] = workloads;
+/// The jobs on the workloads of one size: the last is searched, the other four
+/// are rewritten; the first is for the other calls too, and the one with
+/// starting lines is also measured and translated.
+pub fn of_workloads(workloads: &[Workload; 5]) -> Vec<Job<'_>> {
+    let [random, levels, chain, mismatch, doubled] = workloads;
     let mut jobs = Vec::from(line_jobs(random));
     jobs.extend([measuring_job(random), measuring_job(levels)]);
     jobs.push(evaluating_job(random));
     jobs.extend([translating_job(random), translating_job(levels)]);
     jobs.extend(rule_jobs(random));
-    jobs.extend(workloads.iter().map(rewriting_job));
+    jobs.extend([random, doubled].map(finding_job));
+    jobs.extend([random, levels, chain, mismatch].map(rewriting_job));
     jobs.extend([random, chain, mismatch].map(listing_job));
     jobs
 }
@@ -120,6 +121,14 @@ fn rule_jobs(workload: &Workload) -> [Job<'_>; 2] {
             program.match_site(circuit, rules, site)
         }),
     ]
+}
+
+fn finding_job(workload: &Workload) -> Job<'_> {
+    let (circuit, rules) = (&workload.circuit.table, &workload.rules.table);
+    let wanted = workload.longest_search();
+    Job::new("find", workload, move |program, _| {
+        program.find_mask(circuit, rules, wanted)
+    })
 }
 
 fn rewriting_job(workload: &Workload) -> Job<'_> {

@@ -34,6 +34,15 @@ extern "C" {
         gate: u32,
         mask: u32,
     ) -> u64;
+    fn napspruce_find(
+        circuit: *const u32,
+        circuit_count: usize,
+        rules: *const u32,
+        rules_count: usize,
+        rule: u32,
+        gate: u32,
+        limit: u32,
+    ) -> u64;
     fn napspruce_rewrite(
         circuit: *const u32,
         circuit_count: usize,
@@ -66,6 +75,9 @@ extern "C" {
         listing_count: usize,
     ) -> u64;
 }
+
+/// A function of a circuit, rules and three numbers.
+type OnRules = unsafe extern "C" fn(*const u32, usize, *const u32, usize, u32, u32, u32) -> u64;
 
 /// The library under test.
 pub struct Product;
@@ -103,18 +115,12 @@ impl Program for Product {
         unsafe { napspruce_judge(rules.as_ptr(), rules.len(), rule) }
     }
 
-    fn match_site(&self, circuit: &[u32], rules: &[u32], [rule, gate, mask]: [u32; 3]) -> u64 {
-        unsafe {
-            napspruce_match(
-                circuit.as_ptr(),
-                circuit.len(),
-                rules.as_ptr(),
-                rules.len(),
-                rule,
-                gate,
-                mask,
-            )
-        }
+    fn match_site(&self, circuit: &[u32], rules: &[u32], site: [u32; 3]) -> u64 {
+        on_rules(napspruce_match, circuit, rules, site)
+    }
+
+    fn find_mask(&self, circuit: &[u32], rules: &[u32], wanted: [u32; 3]) -> u64 {
+        on_rules(napspruce_find, circuit, rules, wanted)
     }
 
     fn rewrite(&self, [circuit, rules, sites]: [&[u32]; 3], buffers: Rewriting) -> u64 {
@@ -161,5 +167,20 @@ impl Program for Product {
                 listing.len(),
             )
         }
+    }
+}
+
+fn on_rules(function: OnRules, circuit: &[u32], rules: &[u32], numbers: [u32; 3]) -> u64 {
+    let [first, second, third] = numbers;
+    unsafe {
+        function(
+            circuit.as_ptr(),
+            circuit.len(),
+            rules.as_ptr(),
+            rules.len(),
+            first,
+            second,
+            third,
+        )
     }
 }

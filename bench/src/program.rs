@@ -1,15 +1,18 @@
-//! The nine calls, so that jobs can be given the one program or the other.
+//! The ten calls, so that jobs can be given the one program or the other.
 
 use crate::plain::refusal::{Answer, Refusal};
-use crate::plain::{depth, evaluation, lines, listing, matching, rewriting, rules, translation};
+use crate::plain::{
+    depth, evaluation, finding, lines, listing, matching, rewriting, rules, translation,
+};
 
 /// The calls as the library exports them, parameters in the same order.
 ///
 /// A refusal is 1,000,000 + 10 x number + table. Otherwise the result is, for
 /// reading and writing, 0; for a pair, D in the high 32 bits and N in the low;
 /// for a translation, the need in the high 32 bits and the instructions in the
-/// low; for a rewriting, old D, old N, new D, new N and kept, 12 bits each; and
-/// for the other calls the number they give.
+/// low; for a search, the ways in the high 32 bits, then the outcome and the
+/// mask, 16 bits each; for a rewriting, old D, old N, new D, new N and kept, 12
+/// bits each; and for the other calls the number they give.
 pub trait Program {
     fn read(&self, text: &[u8], table: &mut [u32]) -> u64;
     fn write(&self, table: &[u32], text: &mut [u8]) -> u64;
@@ -17,6 +20,8 @@ pub trait Program {
     fn measure(&self, circuit: &[u32]) -> u64;
     fn judge(&self, rules: &[u32], rule: u32) -> u64;
     fn match_site(&self, circuit: &[u32], rules: &[u32], site: [u32; 3]) -> u64;
+    /// The three numbers are a rule, a gate and a limit of ways.
+    fn find_mask(&self, circuit: &[u32], rules: &[u32], wanted: [u32; 3]) -> u64;
     fn rewrite(&self, tables: [&[u32]; 3], buffers: Rewriting) -> u64;
     fn translate(&self, circuit: &[u32], limit: u32, program: &mut [u32]) -> u64;
     fn listing(&self, texts: [&[u8]; 3], listing: &mut [u8]) -> u64;
@@ -64,6 +69,13 @@ impl Program for Plain {
     fn match_site(&self, circuit: &[u32], rules: &[u32], [rule, gate, mask]: [u32; 3]) -> u64 {
         let answer = matching::match_site(circuit, rules, rule, gate, mask);
         packed(answer, u64::from)
+    }
+
+    fn find_mask(&self, circuit: &[u32], rules: &[u32], [rule, gate, limit]: [u32; 3]) -> u64 {
+        let answer = finding::find_mask(circuit, rules, rule, gate, limit);
+        packed(answer, |found| {
+            high_and_low(found.ways, u32::from(found.outcome) << 16 | found.mask)
+        })
     }
 
     fn rewrite(&self, [circuit, rules, sites]: [&[u32]; 3], buffers: Rewriting) -> u64 {

@@ -1,8 +1,11 @@
 //! Workloads of growing size, the same on every run and machine.
 
+use std::ops::Range;
+
 use crate::plain::circuit::{
     CIRCUIT_NUMBERS, HIGHEST_LEVEL, MOST_GATES, MOST_INPUTS, MOST_OUTPUTS, STARTING,
 };
+use crate::plain::finding::{find_mask, Found, MASK, MOST_WAYS};
 use crate::plain::gates::{AND, CLOSING, CONSTANTS, XOR};
 use crate::plain::lines::{self, Line, LINE_BYTES};
 use crate::plain::matching::match_site;
@@ -31,8 +34,14 @@ pub struct Form {
 }
 
 /// All workloads of one size.
-pub fn of_size(gates: usize) -> [Workload; 4] {
-    [random(gates), levels(gates), chain(gates), mismatch(gates)]
+pub fn of_size(gates: usize) -> [Workload; 5] {
+    [
+        random(gates),
+        levels(gates),
+        chain(gates),
+        mismatch(gates),
+        doubled(gates),
+    ]
 }
 
 /// A random circuit with rules and sites of all sorts; some gates are dead.
@@ -85,6 +94,27 @@ pub fn mismatch(gates: usize) -> Workload {
     Workload::new("mismatch", &mut random, circuit, listed([balance()]), sites)
 }
 
+/// The same chain, but for its end, with a rule of as many left gates as there
+/// may be that has as many ways to be searched for there as there can be. All
+/// but its first gate have the one before them as both operands, and so have
+/// the circuit's last ones: each is followed as written and crosswise. The
+/// first is a hole times itself, and the circuit's gate there has two operands:
+/// it fails both ways, at the last of all pairings.
+pub fn doubled(gates: usize) -> Workload {
+    let mut random = Random::new(gates);
+    let mut circuit = chain_circuit(gates);
+    let end = first_gate(&circuit) + gates;
+    let above = MOST_SIDE_GATES - 1;
+    circuit.splice(1 + gates - above..1 + gates, squares(end - above..end));
+    // Of one hole, and closing on it.
+    let first = CONSTANTS + 1;
+    let left: Vec<Line> = squares(first..first + MOST_SIDE_GATES).collect();
+    let rules = listed([rule(1, &left, &[])]);
+    // The last gate, the dead one having been trimmed away.
+    let sites = vec![[1, end as u32 - 2, 0]];
+    Workload::new("doubled", &mut random, circuit, rules, sites)
+}
+
 impl Workload {
     fn new(
         name: &'static str,
@@ -119,6 +149,25 @@ impl Workload {
         sites
             .find(matches)
             .expect("the first rule matches somewhere")
+    }
+
+    /// Of the sites' rules and gates, in the trimmed circuit, those whose
+    /// search takes the most ways, among such as find a mask if there are any;
+    /// and the highest limit.
+    pub fn longest_search(&self) -> Line {
+        let sites = self.sites.table.as_chunks().0[1..].iter();
+        let wanted = sites.map(|&[rule, gate, _]: &Line| [rule, gate, MOST_WAYS]);
+        let length = |&wanted: &Line| {
+            let found = self.found(wanted);
+            (found.outcome == MASK, found.ways)
+        };
+        wanted.max_by_key(length).expect("there are sites")
+    }
+
+    /// What is found of a rule, at a gate, within a limit.
+    pub fn found(&self, [rule, gate, limit]: Line) -> Found {
+        find_mask(&self.circuit.table, &self.rules.table, rule, gate, limit)
+            .expect("well-formed tables and a limit in its range")
     }
 }
 
@@ -181,6 +230,11 @@ fn chained(inputs: usize, first: usize, kind: impl Fn(usize) -> u32) -> impl Ite
         let input = CONSTANTS + (index + 1) % inputs;
         [kind(index), before as u32, input as u32]
     })
+}
+
+/// Gates of such references, each of the one before it twice.
+fn squares(own: Range<usize>) -> impl Iterator<Item = Line> {
+    own.map(|own| [AND, own as u32 - 1, own as u32 - 1])
 }
 
 /// How far back most operands of a random circuit lie.
@@ -320,7 +374,7 @@ impl<'a> Growing<'a> {
     }
 
     /// The references of the current circuit's gates.
-    fn gates(&self) -> std::ops::Range<usize> {
+    fn gates(&self) -> Range<usize> {
         let first = CONSTANTS + self.circuit[0] as usize;
         first..first + self.circuit[1] as usize
     }

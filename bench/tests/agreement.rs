@@ -5,14 +5,19 @@ mod common;
 
 use std::collections::{BTreeMap, BTreeSet};
 
-use common::{agree, old_bytes, old_numbers, our_pair, ours, slow_rewrite, slow_translate};
+use common::{
+    agree, old_bytes, old_numbers, our_pair, ours, slow_find, slow_rewrite, slow_translate,
+};
 
 use bench::plain::circuit::{CIRCUIT_NUMBERS, MOST_OUTPUTS};
+use bench::plain::finding::MOST_WAYS;
 use bench::plain::listing::LISTING_BYTES;
 use bench::plain::refusal::{Answer, Refusal};
 use bench::plain::sites::MOST_SITES;
 use bench::plain::translation::PROGRAM_NUMBERS;
-use bench::plain::{depth, evaluation, lines, listing, matching, rewriting, rules, translation};
+use bench::plain::{
+    depth, evaluation, finding, lines, listing, matching, rewriting, rules, translation,
+};
 use bench::workloads::{levels, random, Workload};
 use evaluator::generator::{case, Case};
 use evaluator::lines::text_of;
@@ -22,7 +27,7 @@ const SEED: u64 = 20;
 const CASES: u64 = 2000;
 
 /// Numbers near limits and far beyond them.
-const ODD: [u32; 14] = [
+const ODD: [u32; 16] = [
     0,
     1,
     2,
@@ -33,6 +38,8 @@ const ODD: [u32; 14] = [
     512,
     1024,
     2049,
+    65_535,
+    65_536,
     999_999,
     1_000_000,
     1 << 31,
@@ -69,6 +76,8 @@ fn length(random: &mut Random, least: usize) -> usize {
 #[derive(Default)]
 struct Seen {
     outcomes: BTreeMap<&'static str, BTreeSet<(u32, u32)>>,
+    /// The finder's outcomes.
+    found: BTreeSet<u8>,
 }
 
 impl Seen {
@@ -134,6 +143,21 @@ impl Seen {
                 |_| ours(match_site(circuit, rules, rule, gate, mask)),
             );
             self.note("match", answer);
+            self.finding(random, [circuit, rules], [rule, gate]);
+        }
+    }
+
+    /// At limits around the ways, and at one that may be out of range.
+    fn finding(&mut self, random: &mut Random, tables: [&[u32]; 2], [rule, gate]: [u32; 2]) {
+        let [circuit, rules] = tables;
+        let plain = |limit| finding::find_mask(circuit, rules, rule, gate, limit);
+        let ways = plain(MOST_WAYS).map_or(1, |found| found.ways.max(1));
+        let near = random.pick(&[ways - 1, ways, ways + 1]);
+        for limit in [near, MOST_WAYS, random.pick(&ODD)] {
+            let answer = plain(limit);
+            assert_eq!(answer, slow_find(circuit, rules, [rule, gate, limit]));
+            self.found.extend(answer.map(|found| found.outcome));
+            self.note("find", answer);
         }
     }
 
@@ -193,6 +217,10 @@ impl Seen {
         let short: &[_] = &[(2, 0)];
         let expected = [
             ("evaluate", vec![done, &[(1, 1), (1, 0)], short, circuit]),
+            (
+                "find",
+                vec![done, &[(1, 1), (1, 2)], circuit, rules, &[(12, 0)]],
+            ),
             ("judge", vec![done, &[(1, 2)], rules]),
             (
                 "listing",
@@ -210,6 +238,7 @@ impl Seen {
         ];
         let expected = expected.map(|(call, parts)| (call, parts.concat().into_iter().collect()));
         assert_eq!(self.outcomes, expected.into_iter().collect());
+        assert_eq!(self.found, (0..=5).collect());
     }
 }
 

@@ -2,15 +2,16 @@
 
 mod common;
 
-use common::{agree, old_bytes, old_numbers, slow_rewrite};
+use common::{agree, old_bytes, old_numbers, slow_find, slow_rewrite};
 
 use bench::jobs::{of_workloads, Buffers};
 use bench::plain::circuit::CIRCUIT_NUMBERS;
+use bench::plain::finding::{Found, MASK, NONE, SPENT};
 use bench::plain::rewriting::rewrite;
 use bench::plain::sites::MOST_SITES;
 use bench::plain::translation::PROGRAM_NUMBERS;
 use bench::program::{is_refusal, Plain};
-use bench::workloads::{chain, levels, mismatch, of_size, random, Workload, SIZES};
+use bench::workloads::{chain, doubled, levels, mismatch, of_size, random, Workload, SIZES};
 
 /// The verdicts of a workload's sites.
 fn verdicts(workload: &Workload) -> Vec<u8> {
@@ -82,6 +83,37 @@ fn chains_are_shortened_until_they_are_balanced() {
 fn mismatching_sites_all_get_verdict_4() {
     for gates in SIZES {
         assert_eq!(verdicts(&mismatch(gates)), [4; MOST_SITES]);
+    }
+}
+
+/// What both programs find in a workload.
+fn found(workload: &Workload, wanted: [u32; 3]) -> Found {
+    let [circuit, rules, _] = tables(workload);
+    let found = workload.found(wanted);
+    assert_eq!(slow_find(circuit, rules, wanted), Ok(found));
+    found
+}
+
+#[test]
+fn doubled_gates_have_all_ways_there_can_be() {
+    for gates in SIZES {
+        let workload = doubled(gates);
+        let [rule, gate, most] = workload.longest_search();
+        let at = |limit| {
+            let found = found(&workload, [rule, gate, limit]);
+            (found.outcome, found.ways)
+        };
+        assert_eq!(at(most), (NONE, 65_534));
+        assert_eq!(at(65_533), (SPENT, 65_533));
+    }
+}
+
+#[test]
+fn random_searches_find_a_mask_after_wrong_ways() {
+    for gates in SIZES {
+        let workload = random(gates);
+        let found = found(&workload, workload.longest_search());
+        assert!(found.outcome == MASK && found.ways > 3, "{found:?}");
     }
 }
 

@@ -19,21 +19,36 @@ pub fn match_site(
     gate: u32,
     mask: u32,
 ) -> Answer<Verdict> {
-    let circuit = lines_of(circuit, CIRCUIT)?;
-    let rules = lines_of(rules, RULES)?;
-    let circuit = Circuit::checked(circuit)?;
-    let rules = Rules::checked(rules)?;
+    let (circuit, rules) = checked(circuit, rules)?;
     let found = matched(circuit, &rules, [rule, gate, mask]);
     Ok(found.err().unwrap_or(0))
 }
 
+/// The circuit and the rules of two tables: 1 for both before the others.
+pub fn checked<'a>(circuit: &'a [u32], rules: &'a [u32]) -> Answer<(Circuit<'a>, Rules<'a>)> {
+    let circuit = lines_of(circuit, CIRCUIT)?;
+    let rules = lines_of(rules, RULES)?;
+    Ok((Circuit::checked(circuit)?, Rules::checked(rules)?))
+}
+
 fn matched(circuit: Circuit, rules: &Rules, [rule, gate, mask]: Line) -> Result<Bindings, Verdict> {
+    let (rule, gate) = judged_at(circuit, rules, rule, gate)?;
+    bind(circuit.gates, circuit.first_gate(), rule, gate, mask).ok_or(4)
+}
+
+/// The rule of a number and the reference that a gate of the trimmed circuit
+/// has before trimming, or the first of verdicts 1 to 3.
+pub fn judged_at<'a>(
+    circuit: Circuit,
+    rules: &Rules<'a>,
+    rule: u32,
+    gate: u32,
+) -> Result<(Rule<'a>, usize), Verdict> {
     let rule = rules.rule(rules.index_of(rule).ok_or(1)?);
     if !rule.is_sound() {
         return Err(2);
     }
-    let gate = untrimmed(circuit, gate as usize).ok_or(3)?;
-    bind(circuit.gates, circuit.first_gate(), rule, gate, mask).ok_or(4)
+    Ok((rule, untrimmed(circuit, gate as usize).ok_or(3)?))
 }
 
 /// The reference that a gate of the trimmed circuit has before trimming. A
@@ -66,24 +81,48 @@ pub fn bind(gates: &[Line], first: usize, rule: Rule, gate: usize, mask: u32) ->
     if mask >> rule.left.len() != 0 {
         return None;
     }
+    let mut bound = root_bound(rule, gate);
+    for index in (0..rule.left.len()).rev() {
+        if !bind_part(gates, first, rule, index, mask, &mut bound) {
+            return None;
+        }
+    }
+    Some(bound)
+}
+
+/// The bindings before any part of a match: the last left gate's only.
+pub fn root_bound(rule: Rule, gate: usize) -> Bindings {
     let mut bound = [UNBOUND; SIDE_REFERENCES];
     // A constant needs the same constant, as if it were bound to it.
     bound[0] = 0;
     bound[1] = 1;
     bound[rule.first_gate() + rule.left.len() - 1] = gate as u32;
-    for (index, &[kind, left, right]) in rule.left.iter().enumerate().rev() {
-        let target = bound[rule.first_gate() + index] as usize;
-        let &[found, a, b] = gates.get(target.checked_sub(first)?)?;
-        let (a, b) = if mask >> index & 1 == 1 {
-            (b, a)
-        } else {
-            (a, b)
-        };
-        if found != kind || !pair(&mut bound, left, a) || !pair(&mut bound, right, b) {
-            return None;
-        }
-    }
-    Some(bound)
+    bound
+}
+
+/// Binds what one left gate's part of the match binds; false if it does not
+/// hold.
+#[inline]
+pub fn bind_part(
+    gates: &[Line],
+    first: usize,
+    rule: Rule,
+    index: usize,
+    mask: u32,
+    bound: &mut Bindings,
+) -> bool {
+    let [kind, left, right] = rule.left[index];
+    let target = bound[rule.first_gate() + index] as usize;
+    // What lies below the first gate wraps round to beyond the last.
+    let Some(&[found, a, b]) = gates.get(target.wrapping_sub(first)) else {
+        return false;
+    };
+    let (a, b) = if mask >> index & 1 == 1 {
+        (b, a)
+    } else {
+        (a, b)
+    };
+    found == kind && pair(bound, left, a) && pair(bound, right, b)
 }
 
 /// Pairs a rule's operand with a circuit's: the unbound becomes bound, the

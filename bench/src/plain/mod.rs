@@ -6,6 +6,7 @@
 pub mod circuit;
 pub mod depth;
 pub mod evaluation;
+pub mod finding;
 pub mod gates;
 pub mod lines;
 pub mod listing;

@@ -5,6 +5,7 @@
 use std::fmt::Debug;
 
 use bench::plain::depth::Pair;
+use bench::plain::finding::Found;
 use bench::plain::refusal::{Answer, Refusal};
 use bench::plain::rewriting::Rewritten;
 use bench::plain::translation::Translated;
@@ -44,6 +45,16 @@ pub fn our_pair(pair: evaluator::depth::Pair) -> Pair {
         depth: pair.depth,
         critical: pair.critical,
     }
+}
+
+pub fn slow_find(circuit: &[u32], rules: &[u32], [rule, gate, limit]: [u32; 3]) -> Answer<Found> {
+    use evaluator::finding::find_mask;
+    let found = ours(find_mask(circuit, rules, rule, gate, limit))?;
+    Ok(Found {
+        outcome: found.outcome,
+        mask: found.mask,
+        ways: found.ways,
+    })
 }
 
 pub fn slow_rewrite(

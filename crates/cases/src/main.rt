@@ -1,8 +1,10 @@
 // Tries cases. Each is three files that arguments name, a circuit, rules and sites, of which any may be missing. The first is tried as a
-// text of lines, read and written back, and as a circuit, measured, evaluated and translated; the rules are judged; each site is matched;
-// the circuit is rewritten at all sites in order; and last comes what the program `depth_rewriter` prints for the three files.
+// text of lines, read and written back, and as a circuit, measured, evaluated and translated; the rules are judged; each site is matched, and
+// a mask is looked for there; the circuit is rewritten at all sites in order; and last comes what the program `depth_rewriter` prints for the
+// three files.
 use circuit::checked::MAX_TABLE;
 use files::print_files;
+use finding::print_findings;
 use inspecting::print_evaluations;
 use inspecting::print_pair;
 use libc::STDOUT_FILENO;
@@ -17,6 +19,7 @@ use rules::checked::MAX_SITES;
 use translations::print_short_program;
 use translations::print_translations;
 
+mod finding;
 mod inspecting;
 mod loading;
 mod machine;
@@ -64,7 +67,7 @@ fn try_circuit(i: usize) {
     print_short_program(&table[..count]);
 }
 
-// Judges the rules, matches the sites, and rewrites the circuit at them.
+// Judges the rules, matches the sites, looks for their masks, and rewrites the circuit at them.
 fn try_sites(i: usize, j: usize, k: usize) {
     let mut circuit = [0u32; MAX_TABLE];
     let gates = read_file(i, &mut circuit);
@@ -76,6 +79,8 @@ fn try_sites(i: usize, j: usize, k: usize) {
     print_judgements(&rules[..patterns]);
     io::write_all(STDOUT_FILENO, b", match");
     print_matches(&circuit[..gates], &rules[..patterns], &sites[..places]);
+    io::write_all(STDOUT_FILENO, b", find");
+    print_findings(&circuit[..gates], &rules[..patterns], &sites[..places]);
     io::write_all(STDOUT_FILENO, b", rewrite");
     print_rewriting(&circuit[..gates], &rules[..patterns], &sites[..places]);
 }

@@ -6,7 +6,7 @@ use rules::Matched;
 ghost use Prim.Native.Nat.{_≤_};
 
 // A number that no table has so many lines for.
-const LARGEST: u32 = 4_294_967_295;
+pub const LARGEST: u32 = 4_294_967_295;
 
 fn print_judgement(rules: &[u32], rule: u32) {
     match rules::judge(rules, rule) {

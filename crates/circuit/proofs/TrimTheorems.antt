@@ -1,5 +1,5 @@
 -- The theorems on trimming, of tables. Assumes nothing.
-use mathlib.Core.Path.{_≡_, sym, ap, ap₂, _∙_}
+use mathlib.Core.Path.{_≡_, refl, sym, ap, ap₂, _∙_}
 use mathlib.Core.Bool.{true}
 use mathlib.Core.List.{List, [], _∷_}
 use Prim.Native.Nat.{ℕ, _+_, _-_}
@@ -11,16 +11,16 @@ use Rattle.lines.specs.Refusal.{gives, noTable}
 use Rattle.lines.specs.Checks.{answering, afterwards}
 use Rattle.lines.specs.Calls.{over}
 use Rattle.lines.proofs.CheckLaws.{check-passed, outcome-same}
-use Rattle.circuit.specs.Circuit.{Circuit, firstGate, gateAt}
+use Rattle.circuit.specs.Circuit.{Circuit, firstGate, references, gateAt}
 use Rattle.circuit.specs.Table.{inputs, outputs, gateLines, decode, encode}
 use Rattle.circuit.specs.WellFormed.{WellFormed}
 use Rattle.circuit.specs.Evaluation.{evaluate}
 use Rattle.circuit.specs.Depth.{depth, circuitDepth}
 use Rattle.circuit.specs.ReverseDepth.{isLive, above}
 use Rattle.circuit.specs.Critical.{criticalCount}
-use Rattle.circuit.specs.Trim.{rank, isKept, trim, trimOf}
+use Rattle.circuit.specs.Trim.{rank, isKept, newNumber, trim, trimOf}
 use Rattle.circuit.specs.EvaluateCall.{evaluateChecks, evaluating}
-use Rattle.circuit.specs.Theorems.{TrimmedIsWellFormed, TrimKeepsCounts, TrimKeepsStarts, TrimKeepsGates, TrimKeepsOutputs, TrimKeepsDepth, TrimKeepsCriticalCount, TrimKeepsDepths, TrimmedIsLive, TrimOfTrim, TrimKeepsCalls}
+use Rattle.circuit.specs.Theorems.{TrimmedIsWellFormed, TrimKeepsCounts, TrimKeepsStarts, TrimKeepsGates, OldNumberLeadsBack, TrimKeepsOutputs, TrimKeepsDepth, TrimKeepsCriticalCount, TrimKeepsDepths, TrimmedIsLive, TrimOfTrim, TrimKeepsCalls}
 use Rattle.circuit.proofs.TableLaws.{gates-length, outputs-length, refs-decode}
 use Rattle.circuit.proofs.EachLaws.{each-at}
 use Rattle.circuit.proofs.RefusalLaws.{whole, well-formed-accepted}
@@ -30,7 +30,8 @@ use Rattle.circuit.proofs.MeasureLaws.{measurement-well-formed}
 use Rattle.circuit.proofs.RankLaws.{keep-length}
 use Rattle.circuit.proofs.ReverseDepthLaws.{kept-live}
 use Rattle.circuit.proofs.KeptLaws.{live-count}
-use Rattle.circuit.proofs.TrimLaws.{trim-gate, trim-valid, trim-limited, trim-evaluate, trim-depth, trim-circuit-depth, trim-reverse-depth, trim-critical-count, trim-live, trim-trim}
+use Rattle.circuit.proofs.OldNumberLaws.{old-is, old-none}
+use Rattle.circuit.proofs.TrimLaws.{trim-references, trim-gate, trim-valid, trim-limited, trim-evaluate, trim-depth, trim-circuit-depth, trim-reverse-depth, trim-critical-count, trim-live, trim-trim}
 
 -- the trimmed table says the trimmed circuit
 pub decode-trim : (t : List ℕ) → WellFormed t → decode (trimOf t) ≡ trim (decode t)
@@ -60,6 +61,15 @@ trim-keeps-gates t w = (
   encode-gates (trim (decode t)) ∙ live-count (decode t) (firstGate (inputs t)) (gateLines t) (omega arith),
   λ v g l. ap (λ d. gateAt d (rank (isKept (decode t)) v)) (decode-trim t w) ∙ trim-gate (decode t) (valid-decode t w) v g (kept-live (decode t) v l),
 )
+
+pub old-number-leads-back : OldNumberLeadsBack
+old-number-leads-back t w =
+    let d = decode t in
+    let counted = refs-decode t in
+    let trimmed = sym (refs-decode (trimOf t)) ∙ ap references (decode-trim t w) ∙ trim-references d (valid-decode t w) in (
+      λ v h k. old-is (isKept d) (references d) (newNumber d v) v (references d) k refl (omega arith),
+      λ v h. old-none (isKept d) (references d) v (references d) (omega (arith, trimmed)) ∙ counted,
+    )
 
 pub trim-keeps-outputs : TrimKeepsOutputs
 trim-keeps-outputs t w bytes e = ap (λ c. evaluate c bytes) (decode-trim t w) ∙ trim-evaluate (decode t) (valid-decode t w) bytes e

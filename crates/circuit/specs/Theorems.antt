@@ -19,7 +19,7 @@ use Rattle.circuit.specs.Depth.{plusAnd, startLevels, depth, circuitDept
 use Rattle.circuit.specs.Path.{isAmong, isGate, isOperand, isPath, andsOn}
 use Rattle.circuit.specs.ReverseDepth.{isLive, above}
 use Rattle.circuit.specs.Critical.{criticalCount}
-use Rattle.circuit.specs.Trim.{renameGate, isKept, newNumber, trimOf}
+use Rattle.circuit.specs.Trim.{renameGate, isKept, newNumber, oldNumber, trimOf}
 use Rattle.circuit.specs.EvaluateCall.{evaluating}
 use Rattle.circuit.specs.MeasureCall.{measuring}
 
@@ -177,6 +177,13 @@ TrimKeepsGates =
     → (gates (trimOf t) ≡ countGates (λ v g. isLive (decode t) v) (firstGate (inputs t)) (gateLines t))
     × ((v : ℕ) → isGate (decode t) v ≡ true → isLive (decode t) v ≡ true
     → gateAt (decode (trimOf t)) (newNumber (decode t) v) ≡ renameGate (newNumber (decode t)) (gateAt (decode t) v))
+
+-- The old number leads back from the new one; and to the end of the circuit, where no gate is, from what is beyond the trimmed one.
+abbrev pub OldNumberLeadsBack : Type 0
+OldNumberLeadsBack =
+    (t : List ℕ) → WellFormed t
+    → ((v : ℕ) → v < refs t → isKept (decode t) v ≡ true → oldNumber (decode t) (newNumber (decode t) v) ≡ v)
+    × ((v : ℕ) → refs (trimOf t) ≤ v → oldNumber (decode t) v ≡ refs t)
 
 -- It gives the same outputs on every input.
 abbrev pub TrimKeepsOutputs : Type 0

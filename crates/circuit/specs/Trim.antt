@@ -37,7 +37,7 @@ unfoldable pub oldBelow : (kept : ℕ → Bool) (beyond v : ℕ) → (n : ℕ) �
 oldBelow kept beyond v zero = beyond
 oldBelow kept beyond v (suc n) = first (kept n && eqb (rank kept n) v) n (oldBelow kept beyond v n)
 
--- the reference whose number in the trimmed circuit is v; one beyond the circuit if there is none
+-- the reference whose number in the trimmed circuit is v; one beyond the circuit if there is none (`OldNumberLeadsBack` in Theorems.antt)
 abbrev pub oldNumber : Circuit → (v : ℕ) → ℕ
 oldNumber c v = oldBelow (isKept c) (references c) v (references c)
 

@@ -1,5 +1,5 @@
 -- From what a call gives to what its export gives. Assumes nothing.
-use mathlib.Core.Path.{_≡_, refl, sym, ap, _∙_}
+use mathlib.Core.Path.{_≡_, refl, sym, ap, _∙_, subst}
 use mathlib.Core.Bool.{Bool}
 use mathlib.Core.List.{List}
 use mathlib.Core.Option.{none, some}
@@ -20,6 +20,10 @@ module _ (make : List ℕ → ℕ) (answer known : Result) (n : ℕ) (e : answer
 
   pub outcome-so : {B : Type 0} (o : Outcome B) (after : B) → leaving answer after ≡ o → packedLeaving n after ≡ packOutcome make o
   outcome-so o after q = ap (λ x. packedLeaving x after) (packed-so answer refl) ∙ ap (packOutcome make) q
+
+-- and what its answer is within, it is within where it is known
+pub within-so : (limits : List ℕ) (r : Result) → Within limits r → (answer known : Result) → answer ≡ r → answer ≡ known → Within limits known
+within-so limits r w answer known q e = subst (Within limits) (sym q ∙ e) w
 
 -- the same of `rewrite`
 module _ (result work verdicts : List ℕ) where

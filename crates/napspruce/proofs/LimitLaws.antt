@@ -7,6 +7,7 @@ use native.Mathlib.Nat.{le-refl}
 use native.Mathlib.Omega.{arith}
 use lib.Dec.{leb}
 use lib.ListN.{length}
+use lib.Pow.{pow-mono}
 use borrow.Author.Tests.{leb-true, ltb-false, not-false}
 use Rattle.lists.proofs.Tests.{right-of}
 use Rattle.lines.specs.Line.{isRow, isLine, readLine, writeLine}
@@ -25,12 +26,20 @@ use Rattle.circuit.proofs.BoundLaws.{circuit-depth-le}
 use Rattle.circuit.proofs.RefusalLaws.{accepted-is-well-formed}
 use Rattle.circuit.proofs.ValidLaws.{Limited, limited-decode}
 use Rattle.rules.specs.RuleRefusal.{rulesRefusal, rulesTable}
+use Rattle.rules.specs.Rule.{maxLefts}
+use Rattle.rules.specs.RuleTable.{ruleOf}
+use Rattle.rules.specs.WellFormed.{WellFormedRules}
 use Rattle.rules.specs.SiteTable.{siteCount, sitesRefusal, sitesTable}
 use Rattle.rules.specs.JudgeCall.{judging}
 use Rattle.rules.specs.MatchCall.{matchChecks, matching}
-use Rattle.rules.proofs.RefusalLaws.{accepted-rules-are-well-formed}
+use Rattle.rules.proofs.RefusalLaws.{accepted-rules-are-well-formed, each-rule-is-well-formed}
 use Rattle.rules.proofs.SiteLaws.{accepted-sites-are-well-formed}
+use Rattle.rules.proofs.JudgedLaws.{early-limit, early-none}
 use Rattle.rules.proofs.VerdictTheorems.{verdicts-are-small}
+use Rattle.finder.specs.Search.{maxWays}
+use Rattle.finder.specs.FindCall.{foundValues, findChecks, finding, isLimit as isWays}
+use Rattle.finder.proofs.SearchTheorems.{first-matches}
+use Rattle.finder.proofs.CallLaws.{found-either, limit-small}
 use Rattle.rewriting.specs.Run.{startState, finalState}
 use Rattle.rewriting.specs.RewriteCall.{doneValues, rewriteChecks, rewriting}
 use Rattle.rewriting.proofs.PairLaws.{critical-limit}
@@ -44,8 +53,8 @@ use Rattle.napspruce.specs.ListingCall.{listingOutcome}
 use Rattle.napspruce.proofs.ListingLaws.{lines-limit}
 use Rattle.napspruce.proofs.KnownLaws.{length-within}
 use Rattle.napspruce.proofs.RefusalLaws.{check-within, circuit-within, rules-within, tables-within}
-use Rattle.napspruce.specs.Limits.{EachWithin, Within, evaluateLimits, measureLimits, judgeLimits, matchLimits, rewriteLimits, translateLimits}
-use Rattle.napspruce.specs.Theorems.{ReadIsWithin, WriteIsWithin, EvaluateIsWithin, MeasureIsWithin, JudgeIsWithin, MatchIsWithin, RewriteIsWithin, TranslateIsWithin, ListingIsWithin}
+use Rattle.napspruce.specs.Limits.{EachWithin, Within, evaluateLimits, measureLimits, judgeLimits, matchLimits, findLimits, rewriteLimits, translateLimits}
+use Rattle.napspruce.specs.Theorems.{ReadIsWithin, WriteIsWithin, EvaluateIsWithin, MeasureIsWithin, JudgeIsWithin, MatchIsWithin, FindIsWithin, RewriteIsWithin, TranslateIsWithin, ListingIsWithin}
 
 -- ---- D of a circuit
 
@@ -106,6 +115,32 @@ match-is-within circuit rules rule gate mask =
       (check-within rulesTable (omega arith) _ 1 (omega arith), (circuit-within circuit, (rules-within rules, tt))),
     )
     (λ p. (verdicts-are-small (trim (decode circuit)) rules rule gate mask .1, tt))
+
+-- the numbers of a search for a mask
+found-within : (c : Circuit) (rules : List ℕ) (rule gate limit : ℕ) → WellFormedRules rules → limit ≤ maxWays
+    → EachWithin findLimits (foundValues c rules rule gate limit)
+found-within c rules rule gate limit w most =
+    found-either c rules rule gate limit (EachWithin findLimits) (λ no. (omega (arith, early-limit c rules rule gate), (omega arith, (omega arith, tt))))
+    (λ e l. (omega arith, (omega arith, (most, tt))))
+    (λ e l m.
+    let u = each-rule-is-well-formed rules w rule (early-none c rules rule gate e .0) .1 in
+    let few = pow-mono {i = length (ruleOf rules rule .lefts)} {j = maxLefts} (u .lefts-limit) in
+    (omega arith, (omega (arith, first-matches c (ruleOf rules rule) gate m .0, few), (omega arith, tt))))
+    (λ e l m. (omega arith, (omega arith, (omega arith, tt))))
+
+pub find-is-within : FindIsWithin
+unfolding finding
+find-is-within circuit rules rule gate limit =
+    answer-either (findChecks circuit rules limit) _ (Within findLimits) (
+      check-within circuitTable (omega arith) _ 1 (omega arith),
+      (
+        check-within rulesTable (omega arith) _ 1 (omega arith),
+        (circuit-within circuit, (rules-within rules, (check-within noTable (omega arith) _ 12 (omega arith), tt))),
+      ),
+    )
+    (λ p.
+    found-within (trim (decode circuit)) rules rule gate limit (accepted-rules-are-well-formed rules .0 (p .1 .1 .1 .0))
+    (limit-small limit (not-false (isWays limit) (check-passed _ 11 noTable (p .1 .1 .1 .1 .0)))))
 
 -- the numbers of a rewriting
 done-within : (circuit rules sites : List ℕ) → refusal circuit ≡ 0 → rulesRefusal rules ≡ 0 → sitesRefusal sites ≡ 0

@@ -12,8 +12,9 @@ use Rattle.lines.specs.Refusal.{Result, refused, gives}
 use Rattle.circuit.specs.Circuit.{maxGates, maxDepth, lineCount}
 use Rattle.circuit.specs.Table.{decode}
 use Rattle.rules.specs.SiteTable.{maxSites}
-use Rattle.napspruce.specs.Packing.{packRefusal, pack, isRefusal, unpack, packOne, unpackOne, packTwo, packPair, unpackPair, packTranslation, unpackTranslation, packFields, packRewriting, unpackRewriting}
-use Rattle.napspruce.specs.Limits.{lastRefusal, lastTable, EachWithin, Within, measureLimits, rewriteLimits, translateLimits}
+use Rattle.finder.specs.FindCall.{spent}
+use Rattle.napspruce.specs.Packing.{packRefusal, pack, isRefusal, unpack, packOne, unpackOne, packTwo, packPair, unpackPair, packFinding, unpackFinding, packTranslation, unpackTranslation, packFields, packRewriting, unpackRewriting}
+use Rattle.napspruce.specs.Limits.{lastRefusal, lastTable, EachWithin, Within, measureLimits, lastMask, findLimits, rewriteLimits, translateLimits}
 
 -- ---- refusals
 
@@ -91,6 +92,31 @@ translation-values (k ∷ n ∷ []) w =
     let l : k < 1000000 = omega (arith, w .0) in
     record { told = two-told n k l; same = ap₂ (λ x y. x ∷ y ∷ []) (two-low n k l) (two-high n k l) }
 translation-values (k ∷ n ∷ x ∷ xs) w = absurd (w .1 .1)
+
+-- ---- two numbers, and a third below them
+
+module _ (outcome mask ways : ℕ) (ho : outcome ≤ spent) (hm : mask ≤ lastMask) where
+  below : outcome * 2 ^ 16 + mask < 1000000
+  below = omega arith
+
+  finding-outcome : packTwo ways (outcome * 2 ^ 16 + mask) % 2 ^ 32 / 2 ^ 16 ≡ outcome
+  finding-outcome = ap (λ n. n / 2 ^ 16) (two-low ways (outcome * 2 ^ 16 + mask) below) ∙ digits-div outcome (omega arith)
+
+  finding-mask : packTwo ways (outcome * 2 ^ 16 + mask) % 2 ^ 16 ≡ mask
+  finding-mask =
+      let p : packTwo ways (outcome * 2 ^ 16 + mask) ≡ (ways * 2 ^ 16 + outcome) * 2 ^ 16 + mask = omega arith in
+      ap (λ n. n % 2 ^ 16) p ∙ digits-mod (ways * 2 ^ 16 + outcome) (omega arith)
+
+  finding-same : unpackFinding (packTwo ways (outcome * 2 ^ 16 + mask)) ≡ outcome ∷ mask ∷ ways ∷ []
+  finding-same = ap₂ _∷_ finding-outcome (ap₂ _∷_ finding-mask (ap (λ x. x ∷ []) (two-high ways (outcome * 2 ^ 16 + mask) below)))
+
+pub finding-values : (values : List ℕ) → EachWithin findLimits values → Unpacked packFinding unpackFinding values
+finding-values [] w = absurd w
+finding-values (o ∷ []) w = absurd (w .1)
+finding-values (o ∷ m ∷ []) w = absurd (w .1 .1)
+finding-values (o ∷ m ∷ n ∷ []) w =
+    record { told = two-told n (o * 2 ^ 16 + m) (below o m n (w .0) (w .1 .0)); same = finding-same o m n (w .0) (w .1 .0) }
+finding-values (o ∷ m ∷ n ∷ x ∷ xs) w = absurd (w .1 .1 .1)
 
 -- ---- five numbers
 

@@ -13,16 +13,17 @@ use Rattle.circuit.specs.MeasureCall.{measuring}
 use Rattle.circuit.proofs.FrontLaws.{decode-over}
 use Rattle.rules.specs.JudgeCall.{judging}
 use Rattle.rules.specs.MatchCall.{matching}
+use Rattle.finder.specs.FindCall.{finding}
 use Rattle.rewriting.specs.Run.{finalState}
 use Rattle.rewriting.specs.RewriteCall.{doneValues, rewriting}
 use Rattle.rewriting.proofs.Theorems.{valid-encoded, limited-encoded, success-is-safe, success-leaves-table}
 use Rattle.translator.specs.TranslateCall.{translating}
 use Rattle.napspruce.specs.ListingCall.{maxListing, listingOutcome}
-use Rattle.napspruce.specs.Packing.{packLines, unpackLines, packOne, unpackOne, packPair, unpackPair, packTranslation, unpackTranslation, packRewriting, unpackRewriting}
-use Rattle.napspruce.specs.Limits.{evaluateLimits, measureLimits, judgeLimits, matchLimits, rewriteLimits, translateLimits, listingLimits}
-use Rattle.napspruce.specs.Theorems.{ReadUnpacks, WriteUnpacks, EvaluateUnpacks, MeasureUnpacks, JudgeUnpacks, MatchUnpacks, RewriteUnpacks, TranslateUnpacks, ListingUnpacks}
-use Rattle.napspruce.proofs.PackingLaws.{unpacks, one-value, pair-values, translation-values, rewriting-values}
-use Rattle.napspruce.proofs.LimitLaws.{read-is-within, write-is-within, evaluate-is-within, measure-is-within, judge-is-within, match-is-within, rewrite-is-within, translate-is-within, listing-is-within, conversion-lines}
+use Rattle.napspruce.specs.Packing.{packLines, unpackLines, packOne, unpackOne, packPair, unpackPair, packFinding, unpackFinding, packTranslation, unpackTranslation, packRewriting, unpackRewriting}
+use Rattle.napspruce.specs.Limits.{evaluateLimits, measureLimits, judgeLimits, matchLimits, findLimits, rewriteLimits, translateLimits, listingLimits}
+use Rattle.napspruce.specs.Theorems.{ReadUnpacks, WriteUnpacks, EvaluateUnpacks, MeasureUnpacks, JudgeUnpacks, MatchUnpacks, FindUnpacks, RewriteUnpacks, TranslateUnpacks, ListingUnpacks}
+use Rattle.napspruce.proofs.PackingLaws.{unpacks, one-value, pair-values, finding-values, translation-values, rewriting-values}
+use Rattle.napspruce.proofs.LimitLaws.{read-is-within, write-is-within, evaluate-is-within, measure-is-within, judge-is-within, match-is-within, find-is-within, rewrite-is-within, translate-is-within, listing-is-within, conversion-lines}
 
 pub read-unpacks : ReadUnpacks
 read-unpacks text table =
@@ -51,6 +52,11 @@ pub match-unpacks : MatchUnpacks
 match-unpacks circuit rules rule gate mask =
     unpacks packOne unpackOne matchLimits (matching circuit rules rule gate mask) (match-is-within circuit rules rule gate mask)
     (λ values e w. one-value 4 (omega arith) values w)
+
+pub find-unpacks : FindUnpacks
+find-unpacks circuit rules rule gate limit =
+    unpacks packFinding unpackFinding findLimits (finding circuit rules rule gate limit) (find-is-within circuit rules rule gate limit)
+    (λ values e w. finding-values values w)
 
 -- the table that a rewriting leaves in the result table has as many lines as it says
 head-lines : (circuit rules sites result work verdicts values : List ℕ) → rewriting circuit rules sites result work verdicts .answer ≡ gives values

@@ -1,10 +1,13 @@
 -- How large the numbers are that the calls give.
-use Prim.Native.Nat.{ℕ, _≤_}
+use Prim.Native.Nat.{ℕ, _-_, _^_, _≤_}
 use mathlib.Core.List.{List, [], _∷_}
 use Rattle.lines.specs.Refusal.{Result, refused, gives}
 use Rattle.circuit.specs.Circuit.{maxGates, maxOutputs, maxLines, maxDepth}
+use Rattle.rules.specs.Rule.{maxLefts}
 use Rattle.rules.specs.SiteTable.{maxSites}
 use Rattle.rules.specs.Verdict.{notSound, noMatch}
+use Rattle.finder.specs.Search.{maxWays}
+use Rattle.finder.specs.FindCall.{spent}
 use Rattle.translator.specs.Machine.{maxRegisters}
 use Rattle.translator.specs.Program.{maxInstructions}
 use Rattle.napspruce.specs.ListingCall.{maxListing}
@@ -16,9 +19,9 @@ EachWithin [] (v ∷ vs) = ⊥
 EachWithin (l ∷ ls) [] = ⊥
 EachWithin (l ∷ ls) (v ∷ vs) = (v ≤ l) × EachWithin ls vs
 
--- 01, Refusals, and 02, 2026-01: the last number and the last table
+-- 01, Refusals, and 02, 2026-02: the last number and the last table
 abbrev pub lastRefusal : ℕ
-lastRefusal = 11
+lastRefusal = 12
 
 abbrev pub lastTable : ℕ
 lastTable = 3
@@ -42,6 +45,13 @@ judgeLimits = notSound ∷ []
 
 abbrev pub matchLimits : List ℕ
 matchLimits = noMatch ∷ []
+
+-- `find_mask`: the outcome, the mask, which has a bit for each left gate, and the ways
+abbrev pub lastMask : ℕ
+lastMask = 2 ^ maxLefts - 1
+
+abbrev pub findLimits : List ℕ
+findLimits = spent ∷ lastMask ∷ maxWays ∷ []
 
 -- `rewrite`: both pairs and kept, and before them the lines
 abbrev pub fieldLimits : List ℕ

@@ -54,6 +54,13 @@ packPair values = packTwo (getD values 0 0) (getD values 1 0)
 abbrev pub unpackPair : ℕ → List ℕ
 unpackPair n = n / 2 ^ 32 ∷ n % 2 ^ 32 ∷ []
 
+-- `find_mask`: the ways, and below them the outcome above the 16 bits of the mask
+abbrev pub packFinding : List ℕ → ℕ
+packFinding values = packTwo (getD values 2 0) (getD values 0 0 * 2 ^ 16 + getD values 1 0)
+
+abbrev pub unpackFinding : ℕ → List ℕ
+unpackFinding n = n % 2 ^ 32 / 2 ^ 16 ∷ n % 2 ^ 16 ∷ n / 2 ^ 32 ∷ []
+
 -- `translate`: the number of instructions in the low bits, and the need
 abbrev pub packTranslation : List ℕ → ℕ
 packTranslation values = packTwo (getD values 1 0) (getD values 0 0)

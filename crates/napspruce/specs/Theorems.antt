@@ -13,6 +13,7 @@ use Rattle.circuit.specs.MeasureCall.{measuring}
 use Rattle.rules.specs.WellFormed.{WellFormedRules, WellFormedSites}
 use Rattle.rules.specs.JudgeCall.{judging}
 use Rattle.rules.specs.MatchCall.{matching}
+use Rattle.finder.specs.FindCall.{finding}
 use Rattle.rewriting.specs.SafeRun.{SafeRun}
 use Rattle.rewriting.specs.RewriteCall.{rewriting}
 use Rattle.translator.specs.TranslateCall.{translating}
@@ -20,8 +21,8 @@ use Rattle.napspruce.specs.Listing.{listingTable, listingText}
 use Rattle.napspruce.specs.ListingCall.{maxListing, textRefusal, listTables, listTexts, listingOutcome}
 use Rattle.napspruce.specs.Printed.{refusalKind, printed}
 use Rattle.napspruce.specs.Front.{maxRulesLines, maxSitesLines, front, cut, shortened}
-use Rattle.napspruce.specs.Packing.{pack, unpack, packLines, unpackLines, packOne, unpackOne, packPair, unpackPair, packTranslation, unpackTranslation, packRewriting, unpackRewriting}
-use Rattle.napspruce.specs.Limits.{Within, evaluateLimits, measureLimits, judgeLimits, matchLimits, rewriteLimits, translateLimits, listingLimits}
+use Rattle.napspruce.specs.Packing.{pack, unpack, packLines, unpackLines, packOne, unpackOne, packPair, unpackPair, packFinding, unpackFinding, packTranslation, unpackTranslation, packRewriting, unpackRewriting}
+use Rattle.napspruce.specs.Limits.{Within, evaluateLimits, measureLimits, judgeLimits, matchLimits, findLimits, rewriteLimits, translateLimits, listingLimits}
 
 -- ---- the listing
 
@@ -95,6 +96,9 @@ JudgeIsWithin = (rules : List ℕ) (rule : ℕ) → Within judgeLimits (judging 
 abbrev pub MatchIsWithin : Type 0
 MatchIsWithin = (circuit rules : List ℕ) (rule gate mask : ℕ) → Within matchLimits (matching circuit rules rule gate mask)
 
+abbrev pub FindIsWithin : Type 0
+FindIsWithin = (circuit rules : List ℕ) (rule gate limit : ℕ) → Within findLimits (finding circuit rules rule gate limit)
+
 abbrev pub RewriteIsWithin : Type 0
 RewriteIsWithin =
     (circuit rules sites result work verdicts : List ℕ) → Within rewriteLimits (rewriting circuit rules sites result work verdicts .answer)
@@ -130,6 +134,11 @@ abbrev pub MatchUnpacks : Type 0
 MatchUnpacks =
     (circuit rules : List ℕ) (rule gate mask : ℕ)
     → unpack unpackOne (pack packOne (matching circuit rules rule gate mask)) ≡ matching circuit rules rule gate mask
+
+abbrev pub FindUnpacks : Type 0
+FindUnpacks =
+    (circuit rules : List ℕ) (rule gate limit : ℕ)
+    → unpack unpackFinding (pack packFinding (finding circuit rules rule gate limit)) ≡ finding circuit rules rule gate limit
 
 -- with the lines, which are those of the circuit that the result table says
 abbrev pub RewriteUnpacks : Type 0

@@ -2,11 +2,16 @@
 use crate::listing::Listed;
 use crate::listing::list;
 use crate::packing::pack_fields;
+use crate::packing::pack_finding;
 use crate::packing::pack_refusal;
 use crate::packing::pack_two;
 use circuit::Evaluated;
 use circuit::Measured;
 use circuit::checked::DepthPair;
+use finder::Found;
+use finder::MASK;
+use finder::NO_MASK;
+use finder::SPENT;
 use lines::Answer;
 use rewriting::Rewritten;
 use rules::Judged;
@@ -18,10 +23,11 @@ ghost use Rattle.circuit.specs.EvaluateCall.{evaluating};
 ghost use Rattle.circuit.specs.MeasureCall.{measuring};
 ghost use Rattle.rules.specs.JudgeCall.{judging};
 ghost use Rattle.rules.specs.MatchCall.{matching};
+ghost use Rattle.finder.specs.FindCall.{finding};
 ghost use Rattle.rewriting.specs.RewriteCall.{rewriting as rewritingOf};
 ghost use Rattle.translator.specs.TranslateCall.{translating};
 ghost use Rattle.napspruce.specs.ListingCall.{listingOutcome};
-ghost use Rattle.napspruce.specs.Packing.{pack, packLines, packOne, packPair, packTranslation};
+ghost use Rattle.napspruce.specs.Packing.{pack, packLines, packOne, packPair, packFinding, packTranslation};
 ghost use Rattle.napspruce.specs.Exports.{packedLeaving, packOutcome, rewritingLeaving, packRewritingOutcome};
 
 // Reads a text into a table. Gives 0.
@@ -94,6 +100,26 @@ pub extern "C" fn napspruce_match(
     match rules::match_site(circuit, rules, rule, gate, mask) {
         Matched::Verdict(verdict) => verdict as u64,
         Matched::Refused(refusal) => pack_refusal(refusal),
+    }
+}
+
+// Gives the mask by which a rule matches at a gate, looked for in at most `limit` ways, or why there is none, and the ways tried.
+#[no_mangle]
+pub extern "C" fn napspruce_find(
+    circuit: &[u32],
+    rules: &[u32],
+    rule: u32,
+    gate: u32,
+    limit: u32,
+) -> u64
+    ensures { λ r. ⌜ r ≡ pack packFinding (finding (now (circuit .entry)) (now (rules .entry)) rule gate limit) ⌝ }
+{
+    match finder::find_mask(circuit, rules, rule, gate, limit) {
+        Found::Mask { mask, ways } => pack_finding(MASK, mask, ways),
+        Found::Verdict(verdict) => pack_finding(verdict, 0, 0),
+        Found::NoMask(ways) => pack_finding(NO_MASK, 0, ways),
+        Found::Spent(most) => pack_finding(SPENT, 0, most),
+        Found::Refused(refusal) => pack_refusal(refusal),
     }
 }
 

@@ -4,14 +4,17 @@ use lines::Refusal;
 ghost use mathlib.Core.Path.{_≡_};
 ghost use mathlib.Core.List.{[], _∷_};
 ghost use Prim.Native.Nat.{_+_, _*_, _^_, _<_};
-ghost use Rattle.napspruce.specs.Packing.{packRefusal, packTwo, packFields};
-ghost use Rattle.napspruce.specs.Limits.{EachWithin, fieldLimits};
+ghost use Rattle.napspruce.specs.Packing.{packRefusal, packTwo, packFinding, packFields};
+ghost use Rattle.napspruce.specs.Limits.{EachWithin, findLimits, fieldLimits};
 
 // What every refusal is above.
 const REFUSAL_BASE: u64 = 1_000_000;
 
-// 2 to the power 32, the place of the higher of two numbers; and 2 to the power 12, that of the next of five.
+// 2 to the power 32, the place of the higher of two numbers; 2 to the power 16, that of a search's outcome; and 2 to the power 12, that of the
+// next of five.
 const HIGH_PLACE: u64 = 4_294_967_296;
+
+const OUTCOME_PLACE: u32 = 65_536;
 
 const FIELD_PLACE: u64 = 4096;
 
@@ -26,6 +29,14 @@ pub fn pack_two(high: u32, low: u32) -> u64
     ensures { λ r. ⌜ r ≡ packTwo high low ⌝ }
 {
     HIGH_PLACE * (high as u64) + low as u64
+}
+
+// The ways of a search, and below them its outcome above the 16 bits of its mask.
+pub fn pack_finding(outcome: u32, mask: u32, ways: u32) -> u64
+    requires { ⌜ EachWithin findLimits (outcome ∷ mask ∷ ways ∷ []) ⌝ }
+    ensures { λ r. ⌜ r ≡ packFinding (outcome ∷ mask ∷ ways ∷ []) ⌝ }
+{
+    pack_two(ways, OUTCOME_PLACE * outcome + mask)
 }
 
 // One more number behind those that are packed, in 12 bits.

@@ -17,12 +17,12 @@ use Rattle.rules.specs.declared.judging.JudgedRule.{JudgedRule}
 use Rattle.rules.specs.Rule.{Rule, maxRules}
 use Rattle.rules.specs.RuleTable.{ruleAt, placeOf, ruleOf}
 use Rattle.rules.specs.Soundness.{isSound}
-use Rattle.rules.specs.Verdict.{SiteMatch, passes, noRule, notSound, notAGate, noMatch, hasRule, judgement, failing, matchAt, matchSite, matchJudged}
+use Rattle.rules.specs.Verdict.{SiteMatch, passes, noRule, notSound, notAGate, noMatch, hasRule, judgement, earlyVerdict, failing, matchAt, matchSite, matchJudged}
 use Rattle.rules.specs.Remembered.{judgedRule, entryOf, Remembered}
 use Rattle.rules.specs.WellFormed.{WellFormedRule, WellFormedRules}
 use Rattle.rules.proofs.WalkLaws.{rule-to}
 use Rattle.rules.proofs.RefusalLaws.{each-rule-is-well-formed}
-use Rattle.rules.proofs.VerdictLaws.{at-small}
+use Rattle.rules.proofs.VerdictLaws.{early-small, at-small}
 
 module _ (t : List ℕ) (rule : ℕ) where
   pub judged-missing : hasRule t rule ≡ false → record { place = 0; verdict = noRule } ≡ judgedRule t rule
@@ -91,6 +91,41 @@ module _ (t : List ℕ) (rule : ℕ) where
         go true true = refl
         go true false = refl
         go false s = refl
+
+-- the verdicts before the match, of the rule of a number
+module _ (c : Circuit) (t : List ℕ) (rule gate : ℕ) where
+  abbrev early : ℕ
+  early = earlyVerdict c (judgement t rule) gate
+
+  pub early-limit : early ≤ notAGate
+  unfolding judgedRule
+  early-limit = early-small c gate (judgement t rule) early refl (judged-small t rule (judgedRule t rule) refl)
+
+  pub early-none : early ≡ passes → (hasRule t rule ≡ true) × (isSound (ruleOf t rule) ≡ true) × (isGate c gate ≡ true)
+  unfolding judgement
+  early-none = go (hasRule t rule) (isSound (ruleOf t rule)) (isGate c gate)
+    where
+      go : (h s g : Bool) → (let j = first (not h) noRule (first (not s) notSound passes) in first (eqb j passes) (first (not g) notAGate passes) j ≡ passes)
+          → (h ≡ true) × (s ≡ true) × (g ≡ true)
+      go true true true e = (refl, refl, refl)
+      go true true false e = let no-way : ⊥ = omega arith in absurd no-way
+      go true false g e = let no-way : ⊥ = omega arith in absurd no-way
+      go false s g e = let no-way : ⊥ = omega arith in absurd no-way
+
+  -- a site gets the one that applies, whatever its mask
+  pub early-site : (mask : ℕ) → (early ≡ passes → ⊥) → matchSite c t rule gate mask .verdict ≡ early
+  unfolding judgement matchSite
+  early-site mask = go (hasRule t rule) (isSound (ruleOf t rule)) (isGate c gate)
+    where
+      go : (h s g : Bool)
+          → (let j = first (not h) noRule (first (not s) notSound passes) in
+          (first (eqb j passes) (first (not g) notAGate passes) j ≡ passes → ⊥)
+          → first (not h) (failing noRule) (first (not s) (failing notSound) (first (not g) (failing notAGate) (matchAt c (ruleOf t rule) gate mask))) .verdict
+          ≡ first (eqb j passes) (first (not g) notAGate passes) j)
+      go true true true n = absurd (n refl)
+      go true true false n = refl
+      go true false g n = refl
+      go false s g n = refl
 
 -- the match of a rule of which the judge said j
 module _ (c : Circuit) (u : Rule) (j gate mask : ℕ) where

@@ -1,14 +1,14 @@
 -- The match as its branches and its loop run it. Assumes nothing.
-use mathlib.Core.Path.{_≡_, refl, sym, ap, _∙_}
+use mathlib.Core.Path.{_≡_, refl, sym, ap, ap₂, _∙_}
 use mathlib.Core.Bool.{Bool, true, false, not}
-use mathlib.Core.List.{List, _∷_}
+use mathlib.Core.List.{List}
 use mathlib.Core.Option.{Option, none, some, bind, Option·some-injective, Option·none-ne-some}
 use Prim.Native.Nat.{ℕ, zero, suc, _+_, _-_, _*_, _≤_, _<_}
 use native.Mathlib.Nat.{not-suc-le-zero}
 use native.Mathlib.Numerals.{add-one}
 use native.Mathlib.Omega.{arith}
 use lib.Dec.{eqb, leb, ltb}
-use lib.ListN.{drop, getD, set, replicate}
+use lib.ListN.{drop, getD, set}
 use borrow.Author.Tests.{eqb-true, eq-eqb, ne-eqb, le-leb, lt-leb, lt-ltb, le-ltb, ltb-true}
 use Rattle.lists.specs.First.{first}
 use Rattle.lists.proofs.Tests.{same-test, both, right-of}
@@ -16,9 +16,9 @@ use Rattle.circuit.specs.Circuit.{Gate, Circuit, firstGate, references, noGate,
 use Rattle.circuit.specs.Table.{inputs, gates, refs, lineAt, decode}
 use Rattle.circuit.specs.Path.{isGate}
 use Rattle.circuit.proofs.TableLaws.{lines-length, refs-decode}
-use Rattle.rules.specs.Rule.{Rule, maxLeftReferences}
+use Rattle.rules.specs.Rule.{Rule}
 use Rattle.rules.specs.RuleTable.{holesAt, leftsAt, leftFrom, ruleAt}
-use Rattle.rules.specs.Match.{optional, binding, boundTo, bindAfter, bindReference, bindOperands, matchGate, isSwapped, matchGates, matchRule, attempt}
+use Rattle.rules.specs.Match.{optional, binding, boundTo, bindAfter, bindReference, bindOperands, matchGate, matchLeft, isSwapped, matchGates, unbound, startBindings, matchRule, attempt}
 use Rattle.rules.proofs.LineLaws.{line-of}
 
 -- ---- one reference
@@ -84,9 +84,9 @@ gate-high c v h = rw (le-leb (firstGate (c .inputs)) v (omega arith), le-ltb v (
 pub gate-below : (t : List ℕ) (v : ℕ) → isGate (decode t) v ≡ true → v < refs t
 gate-below t v e = omega (arith, refs-decode t, ltb-true v (references (decode t)) (right-of (leb (firstGate (inputs t)) v) (ltb v (references (decode t))) e))
 
--- left gate i of a rule's table
-pub left-line : (t : List ℕ) (p i : ℕ) → i < leftsAt t p → getD (ruleAt t p .lefts) i noGate ≡ lineAt t (leftFrom t p + 3 * i)
-left-line t p i h = line-of (leftsAt t p) (leftFrom t p) t i h
+-- left gate i of a rule's table, where the left gate lines are found to begin at q
+pub left-line : (t : List ℕ) (p i : ℕ) → i < leftsAt t p → (q : ℕ) → q ≡ leftFrom t p → lineAt t (q + 3 * i) ≡ getD (ruleAt t p .lefts) i noGate
+left-line t p i h q e = ap (λ q. lineAt t (q + 3 * i)) e ∙ sym (line-of (leftsAt t p) (leftFrom t p) t i h)
 
 -- 0, which stands for what is unbound too, is no gate
 pub gate-coded : (c : Circuit) (m : ℕ) (g : Gate) (swap : Bool) (b : List ℕ) → matchGate c m g swap b
@@ -138,46 +138,46 @@ module _ (t : List ℕ) (m : ℕ) (g : Gate) (swap : Bool) (b : List ℕ) where
 
 module _ (c : Circuit) (u : Rule) (mask : ℕ) where
   more : (i : ℕ) (b b′ : List ℕ) (x : Bool) → 0 < i
-      → attempt x b′ ≡ matchGate c (firstGate (u .holes) + (i - 1)) (getD (u .lefts) (i - 1) noGate) (isSwapped mask (i - 1)) b → x ≡ true
+      → attempt x b′ ≡ matchLeft c u (i - 1) (isSwapped mask (i - 1)) b → x ≡ true
       → matchGates c u mask (i - 1) b′ ≡ matchGates c u mask i b
   unfolding matchGates
   more zero b b′ x h e t = absurd (not-suc-le-zero h)
   more (suc i) b b′ x h e t =
       let s : suc i - 1 ≡ i = omega arith in
       ap (λ k. matchGates c u mask k b′) s
-      ∙ then-some (matchGate c (firstGate (u .holes) + i) (getD (u .lefts) i noGate) (isSwapped mask i) b) (matchGates c u mask i) x b′ (rw s at e) t
+      ∙ then-some (matchLeft c u i (isSwapped mask i) b) (matchGates c u mask i) x b′ (rw s at e) t
 
   fail : (i : ℕ) (b b′ : List ℕ) (x : Bool) → 0 < i
-      → attempt x b′ ≡ matchGate c (firstGate (u .holes) + (i - 1)) (getD (u .lefts) (i - 1) noGate) (isSwapped mask (i - 1)) b → x ≡ false
+      → attempt x b′ ≡ matchLeft c u (i - 1) (isSwapped mask (i - 1)) b → x ≡ false
       → none ≡ matchGates c u mask i b
   unfolding matchGates
   fail zero b b′ x h e t = absurd (not-suc-le-zero h)
   fail (suc i) b b′ x h e t =
       let s : suc i - 1 ≡ i = omega arith in
-      then-none (matchGate c (firstGate (u .holes) + i) (getD (u .lefts) i noGate) (isSwapped mask i) b) (matchGates c u mask i) x b′ (rw s at e) t
+      then-none (matchLeft c u i (isSwapped mask i) b) (matchGates c u mask i) x b′ (rw s at e) t
 
   pub gates-done : (i : ℕ) (b : List ℕ) → i ≡ 0 → some b ≡ matchGates c u mask i b
   unfolding matchGates
   gates-done i b e = rw e
 
--- of the rule at number p of a table, whose left gate lines begin at q: x and b′ are what its gate line i - 1 left
-module _ (c : Circuit) (t : List ℕ) (p mask i : ℕ) (b b′ : List ℕ) (x : Bool) (some-left : 0 < i) (in-rule : i ≤ leftsAt t p) (q : ℕ) (at : q ≡ leftFrom t p)
-    (e : attempt x b′ ≡ matchGate c (firstGate (holesAt t p) + (i - 1)) (lineAt t (q + 3 * (i - 1))) (isSwapped mask (i - 1)) b) where
-  part : attempt x b′ ≡ matchGate c (firstGate (holesAt t p) + (i - 1)) (getD (ruleAt t p .lefts) (i - 1) noGate) (isSwapped mask (i - 1)) b
-  part =
-      e ∙ ap (λ g. matchGate c (firstGate (holesAt t p) + (i - 1)) g (isSwapped mask (i - 1)) b) (ap (λ q. lineAt t (q + 3 * (i - 1))) at ∙ sym (left-line t p (i - 1) (omega arith)))
-
+-- of the rule at number p of a table: x and b′ are what its left gate i - 1 left
+module _ (c : Circuit) (t : List ℕ) (p mask i : ℕ) (b b′ : List ℕ) (x : Bool) (some-left : 0 < i)
+    (e : attempt x b′ ≡ matchLeft c (ruleAt t p) (i - 1) (isSwapped mask (i - 1)) b) where
   pub gates-more : x ≡ true → matchGates c (ruleAt t p) mask (i - 1) b′ ≡ matchGates c (ruleAt t p) mask i b
-  gates-more h = more c (ruleAt t p) mask i b b′ x some-left part h
+  gates-more h = more c (ruleAt t p) mask i b b′ x some-left e h
 
   pub gates-fail : x ≡ false → none ≡ matchGates c (ruleAt t p) mask i b
-  gates-fail h = fail c (ruleAt t p) mask i b b′ x some-left part h
+  gates-fail h = fail c (ruleAt t p) mask i b b′ x some-left e h
 
--- the match starts from the constants and the site's gate
+-- the match starts from the constants and the site's gate, by the table's number of left gates
+pub start-at : (t : List ℕ) (p gate : ℕ) (b : List ℕ) → b ≡ unbound
+    → set (set (set b 0 1) 1 2) (firstGate (holesAt t p) + leftsAt t p - 1) (gate + 1) ≡ startBindings (ruleAt t p) gate
+start-at t p gate b z =
+    ap₂ (λ (d : List ℕ) (k : ℕ). set (set (set d 0 1) 1 2) (firstGate (holesAt t p) + k - 1) (gate + 1))
+    z (sym (lines-length (leftsAt t p) (drop (leftFrom t p) t)))
+
 pub match-start : (c : Circuit) (t : List ℕ) (p gate mask : ℕ)
-    → matchGates c (ruleAt t p) mask (leftsAt t p) (set (1 ∷ 2 ∷ replicate (maxLeftReferences - 2) 0) (firstGate (holesAt t p) + leftsAt t p - 1) (gate + 1))
-    ≡ matchRule c (ruleAt t p) gate mask
+    → matchGates c (ruleAt t p) mask (leftsAt t p) (startBindings (ruleAt t p) gate) ≡ matchRule c (ruleAt t p) gate mask
 unfolding matchRule
 match-start c t p gate mask =
-    ap (λ (k : ℕ). matchGates c (ruleAt t p) mask k (set (1 ∷ 2 ∷ replicate (maxLeftReferences - 2) 0) (firstGate (holesAt t p) + k - 1) (gate + 1)))
-    (sym (lines-length (leftsAt t p) (drop (leftFrom t p) t)))
+    ap (λ (k : ℕ). matchGates c (ruleAt t p) mask k (startBindings (ruleAt t p) gate)) (sym (lines-length (leftsAt t p) (drop (leftFrom t p) t)))

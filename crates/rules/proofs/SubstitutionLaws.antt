@@ -25,7 +25,7 @@ use Rattle.circuit.proofs.PassLaws.{zeros-at}
 use Rattle.rules.specs.Rule.{Rule, hole, root, maxLeftReferences}
 use Rattle.rules.specs.RuleRefusal.{holeUsed}
 use Rattle.rules.specs.WellFormed.{ValidRule}
-use Rattle.rules.specs.Match.{optional, boundTo, bindReference, bindOperands, matchGate, isSwapped, matchGates, startBindings, matchRule}
+use Rattle.rules.specs.Match.{optional, boundTo, bindReference, bindOperands, matchGate, matchLeft, isSwapped, matchGates, startBindings, matchRule}
 use Rattle.rules.specs.Substitution.{BoundGate, Substitution}
 use Rattle.rules.specs.Theorems.{MatchGivesSubstitution}
 use Rattle.rules.proofs.MatchLaws.{some-coded, coded-some, bind-coded, gate-coded}
@@ -223,7 +223,7 @@ root-gate : (c : Circuit) (u : Rule) (mask i : ℕ) (b b′ : List ℕ) → 0 < 
 unfolding matchGates
 root-gate c u mask zero b b′ h e = absurd (not-suc-le-zero h)
 root-gate c u mask (suc i) b b′ h e =
-    let (b₁, p, q) = bind-eq-some-iff (matchGate c (firstGate (u .holes) + i) (getD (u .lefts) i noGate) (isSwapped mask i) b) (matchGates c u mask i) .0 e in
+    let (b₁, p, q) = bind-eq-some-iff (matchLeft c u i (isSwapped mask i) b) (matchGates c u mask i) .0 e in
     let s : suc i - 1 ≡ i = omega arith in
     rw s (gate-tests c (firstGate (u .holes) + i) (getD (u .lefts) i noGate) (isSwapped mask i) b b₁ p .0)
 

@@ -1,5 +1,5 @@
 -- A match in the trimmed circuit is one in the circuit as it is, whose references have their new numbers. Assumes nothing.
-use mathlib.Core.Path.{_≡_, refl, sym, ap, _∙_}
+use mathlib.Core.Path.{_≡_, refl, sym, ap, _∙_, subst}
 use mathlib.Core.Bool.{Bool, true, false, not}
 use mathlib.Core.List.{List}
 use mathlib.Core.Option.{Option, none, some, bind}
@@ -11,7 +11,7 @@ use lib.Dec.{eqb}
 use lib.ListN.{length, getD, replicate, length-set}
 use lib.Seq.{getD-set-same, getD-set-other, set-out}
 use Rattle.lists.specs.First.{first}
-use Rattle.circuit.specs.Circuit.{Gate, Circuit, constants, firstGate, references, noGate, gateAt}
+use Rattle.circuit.specs.Circuit.{Gate, Circuit, firstGate, references, noGate, gateAt}
 use Rattle.circuit.specs.Table.{decode}
 use Rattle.circuit.specs.WellFormed.{WellFormed}
 use Rattle.circuit.specs.Path.{isGate}
@@ -99,7 +99,7 @@ module _ (c : Circuit) where
   zeros-alike : (n : ℕ) → Alike (replicate n 0) (replicate n 0)
   zeros-alike n = record { long = refl; places = λ r. rw (zeros-at n r) tt }
 
-  constant-alike : (r : ℕ) → r < constants → (b b′ : List ℕ) → Alike b b′ → Alike (bindTo r r b) (bindTo r r b′)
+  constant-alike : (r : ℕ) → r < 2 → (b b′ : List ℕ) → Alike b b′ → Alike (bindTo r r b) (bindTo r r b′)
   constant-alike r h b b′ a =
       let e : newNumber c r ≡ r = rank-id (isKept c) r (λ q l. kept-low c q (omega arith)) in
       rw e at (bound-alike r r (kept-low c r (omega arith)) b b′ a)
@@ -155,6 +155,20 @@ module _ (c : Circuit) where
         bind-alike (matchGate c m g (isSwapped mask i) b) (matchGate (trim c) m g (isSwapped mask i) b′) (matchGates c u mask i) (matchGates (trim c) u mask i)
         (gate-alike m g (isSwapped mask i) b b′ a) (gates-alike u mask i)
 
+    -- what holds of each reference that is kept and its new number, and of any two that are beyond, holds of a reference and its old number
+    pub old-either : (P : ℕ → ℕ → Type 0) → ((w : ℕ) → isKept c w ≡ true → P (newNumber c w) w) → ((v w : ℕ) → references (trim c) ≤ v → references c ≤ w → P v w)
+        → (v : ℕ) → P v (oldNumber c v)
+    old-either P kept beyond v =
+        elim (decLt v (references (trim c))) [
+          | yes h ↦
+              let (w, l, k, e) = rank-onto (isKept c) (references c) v (omega (arith, trim-references c ok)) in
+              let same = old-is (isKept c) (references c) v w (references c) k e l in
+              subst (λ x. P x (oldNumber c v)) e (subst (P (newNumber c w)) (sym same) (kept w k))
+          | no h ↦
+              beyond v (oldNumber c v) (omega arith)
+              (omega (arith, old-none (isKept c) (references c) v (references c) (omega (arith, trim-references c ok))))
+        ]
+
     -- ---- the verdict of a site
 
     matched : (u : Rule) (mask w : ℕ) → isKept c w ≡ true → matchAt (trim c) u (newNumber c w) mask .verdict ≡ matchAt c u w mask .verdict
@@ -188,15 +202,7 @@ module _ (c : Circuit) where
       beyond d v h = ap (λ s. tested s (matchAt d u v mask)) (gate-high d v h)
 
       old-alike : (v : ℕ) → atReference (trim c) v ≡ atReference c (oldNumber c v)
-      old-alike v =
-          elim (decLt v (references (trim c))) [
-            | yes h ↦
-                let (w, l, k, e) = rank-onto (isKept c) (references c) v (omega (arith, trim-references c ok)) in
-                ap (atReference (trim c)) (sym e) ∙ (kept-alike w k ∙ ap (atReference c) (sym (old-is (isKept c) (references c) v w (references c) k e l)))
-            | no h ↦
-                beyond (trim c) v (omega arith)
-                ∙ sym (beyond c (oldNumber c v) (omega (arith, old-none (isKept c) (references c) v (references c) (omega (arith, trim-references c ok)))))
-          ]
+      old-alike = old-either (λ v w. atReference (trim c) v ≡ atReference c w) kept-alike (λ v w h l. beyond (trim c) v h ∙ sym (beyond c w l))
 
     pub site-alike : (t : List ℕ) (rule v mask : ℕ) → matchSite (trim c) t rule v mask .verdict ≡ matchSite c t rule (oldNumber c v) mask .verdict
     unfolding matchSite

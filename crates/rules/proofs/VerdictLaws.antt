@@ -3,11 +3,11 @@ use mathlib.Core.Path.{_≡_, refl, sym, ap, _∙_}
 use mathlib.Core.Bool.{Bool, true, false, not}
 use mathlib.Core.List.{List}
 use mathlib.Core.Option.{Option, none, some}
-use Prim.Native.Nat.{ℕ, _+_, _-_, _/_, _^_, _≤_, _<_}
+use Prim.Native.Nat.{ℕ, _/_, _^_, _≤_, _<_}
 use native.Mathlib.Decide.{decLt}
 use native.Mathlib.Omega.{arith}
 use lib.Dec.{eqb}
-use lib.ListN.{length, drop, set}
+use lib.ListN.{length, drop}
 use borrow.Author.Tests.{eq-eqb, ne-eqb, lt-ltb, le-ltb}
 use Rattle.lists.specs.First.{first}
 use Rattle.lists.proofs.First.{first-true, first-false, first-either}
@@ -15,10 +15,10 @@ use Rattle.circuit.specs.Circuit.{Circuit, constants, firstGate, references}
 use Rattle.circuit.specs.Path.{isGate}
 use Rattle.rules.specs.declared.ReferenceKind.the-variants.{Constant, Input, Gate, Beyond}
 use Rattle.rules.specs.Rule.{Rule}
-use Rattle.rules.specs.RuleTable.{holesAt, leftsAt, leftFrom, ruleAt, ruleOf}
+use Rattle.rules.specs.RuleTable.{leftsAt, leftFrom, ruleAt, ruleOf}
 use Rattle.rules.specs.Soundness.{isSound}
-use Rattle.rules.specs.Match.{unbound, matchGates, matchRule, attempt}
-use Rattle.rules.specs.Verdict.{SiteMatch, passes, notSound, notAGate, noMatch, hasRule, kindOf, kindVerdict, failing, givenWith, verdictBy, matchAt, matchSite, matchJudged}
+use Rattle.rules.specs.Match.{matchGates, startBindings, matchRule, attempt}
+use Rattle.rules.specs.Verdict.{SiteMatch, passes, notSound, notAGate, noMatch, hasRule, kindOf, kindVerdict, earlyVerdict, failing, givenWith, verdictBy, matchAt, matchSite, matchJudged}
 use Rattle.rules.specs.Theorems.{KindAsksForGate}
 use Rattle.circuit.proofs.TableLaws.{lines-length}
 use Rattle.rules.proofs.MatchLaws.{is-gate, gate-low, gate-high, match-start}
@@ -62,51 +62,53 @@ module _ (c : Circuit) (v : ℕ) where
 pub kind-asks-for-gate : KindAsksForGate
 kind-asks-for-gate c v = kind-verdict c v
 
--- ---- the verdict so far, j, and behind it that of the reference
+-- ---- the verdicts before the match: v is the first of them that applies, where the judge said j
 
-module _ (c : Circuit) (u : Rule) (gate mask j v : ℕ) (e : v ≡ first (eqb j passes) (kindVerdict (kindOf c gate)) j) where
-  so-far : eqb j passes ≡ false → v ≡ j
-  so-far h = e ∙ first-false (kindVerdict (kindOf c gate)) j h
+module _ (c : Circuit) (gate j v : ℕ) (e : v ≡ earlyVerdict c j gate) where
+  of-judge : eqb j passes ≡ false → v ≡ j
+  of-judge h = e ∙ first-false (first (not (isGate c gate)) notAGate passes) j h
 
   of-kind : eqb j passes ≡ true → v ≡ first (not (isGate c gate)) notAGate passes
-  of-kind h = e ∙ (first-true (kindVerdict (kindOf c gate)) j h ∙ kind-asks-for-gate c gate)
+  of-kind h = e ∙ first-true (first (not (isGate c gate)) notAGate passes) j h
 
-  pub so-far-small : j ≤ notSound → v ≤ notAGate
-  so-far-small h =
+  pub early-small : j ≤ notSound → v ≤ notAGate
+  early-small h =
       rw e
       (first-either (λ x. x ≤ notAGate) (eqb j passes)
-      (rw (kind-asks-for-gate c gate) (first-either (λ x. x ≤ notAGate) (not (isGate c gate)) (omega arith) (omega arith))) (omega arith))
+      (first-either (λ x. x ≤ notAGate) (not (isGate c gate)) (omega arith) (omega arith)) (omega arith))
 
   -- none of them applies
-  pub none-before : v ≡ passes → eqb j passes ≡ true
-  none-before z = go (eqb j passes) refl
-    where
-      go : (b : Bool) → eqb j passes ≡ b → eqb j passes ≡ true
-      go true h = h
-      go false h = eq-eqb j passes (sym (so-far h) ∙ z)
+  module _ (z : v ≡ passes) where
+    pub early-judge : eqb j passes ≡ true
+    early-judge = go (eqb j passes) refl
+      where
+        go : (b : Bool) → eqb j passes ≡ b → eqb j passes ≡ true
+        go true h = h
+        go false h = eq-eqb j passes (sym (of-judge h) ∙ z)
 
-  pub at-gate : v ≡ passes → isGate c gate ≡ true
-  at-gate z = go (isGate c gate) refl
-    where
-      go : (b : Bool) → isGate c gate ≡ b → isGate c gate ≡ true
-      go true k = k
-      go false k =
-          let three : v ≡ notAGate = of-kind (none-before z) ∙ first-true notAGate passes (ap not k) in
-          let no-way : ⊥ = omega arith in
-          absurd no-way
+    pub early-gate : isGate c gate ≡ true
+    early-gate = go (isGate c gate) refl
+      where
+        go : (b : Bool) → isGate c gate ≡ b → isGate c gate ≡ true
+        go true k = k
+        go false k =
+            let three : v ≡ notAGate = of-kind early-judge ∙ first-true notAGate passes (ap not k) in
+            let no-way : ⊥ = omega arith in
+            absurd no-way
 
-  pub judged-at : v ≡ passes → matchAt c u gate mask ≡ matchJudged c u j gate mask
-  judged-at z = rw (none-before z, at-gate z)
+  module _ (u : Rule) (mask : ℕ) where
+    pub judged-at : v ≡ passes → matchAt c u gate mask ≡ matchJudged c u j gate mask
+    judged-at z = rw (early-judge z, early-gate z)
 
-  -- one of them applies, and b is of no use
-  pub judged-failing : (b : List ℕ) → (v ≡ passes → ⊥) → givenWith b v ≡ matchJudged c u j gate mask
-  judged-failing b n = first-false _ _ (ne-eqb v passes n) ∙ go (eqb j passes) refl (isGate c gate) refl
-    where
-      go : (a : Bool) → eqb j passes ≡ a → (b : Bool) → isGate c gate ≡ b
-          → failing v ≡ matchJudged c u j gate mask
-      go false h b k = rw h (ap failing (so-far h))
-      go true h true k = absurd (n (of-kind h ∙ first-false notAGate passes (ap not k)))
-      go true h false k = rw (h, k) (ap failing (of-kind h ∙ first-true notAGate passes (ap not k)))
+    -- one of them applies, and b is of no use
+    pub judged-failing : (b : List ℕ) → (v ≡ passes → ⊥) → givenWith b v ≡ matchJudged c u j gate mask
+    judged-failing b n = first-false _ _ (ne-eqb v passes n) ∙ go (eqb j passes) refl (isGate c gate) refl
+      where
+        go : (a : Bool) → eqb j passes ≡ a → (b : Bool) → isGate c gate ≡ b
+            → failing v ≡ matchJudged c u j gate mask
+        go false h b k = rw h (ap failing (of-judge h))
+        go true h true k = absurd (n (of-kind h ∙ first-false notAGate passes (ap not k)))
+        go true h false k = rw (h, k) (ap failing (of-kind h ∙ first-true notAGate passes (ap not k)))
 
 -- ---- the match
 
@@ -134,8 +136,7 @@ module _ (c : Circuit) (u : Rule) (gate mask : ℕ) where
   unfolding matchAt
   mask-within h = rw (eq-eqb (mask / 2 ^ length (u .lefts)) 0 h)
 
--- of the rule at number p of a table: x and b are what the loop over its left gates left, from the bindings of the start on, which were
--- made where nothing was bound
+-- of the rule at number p of a table: x and b are what the loop over its left gates left, from the bindings of the start on, which are d
 module _ (c : Circuit) (t : List ℕ) (p gate mask : ℕ) where
   count : length (ruleAt t p .lefts) ≡ leftsAt t p
   count = lines-length (leftsAt t p) (drop (leftFrom t p) t)
@@ -143,12 +144,11 @@ module _ (c : Circuit) (t : List ℕ) (p gate mask : ℕ) where
   pub at-beyond : (b : List ℕ) → (mask / 2 ^ leftsAt t p ≡ 0 → ⊥) → givenWith b noMatch ≡ matchAt c (ruleAt t p) gate mask
   at-beyond b h = beyond c (ruleAt t p) gate mask (λ e. h (ap (λ k. mask / 2 ^ k) (sym count) ∙ e))
 
-  module _ (b₀ : List ℕ) (z : b₀ ≡ unbound) (x : Bool) (b : List ℕ) (h : mask / 2 ^ leftsAt t p ≡ 0)
-      (e : attempt x b ≡ matchGates c (ruleAt t p) mask (leftsAt t p) (set (set (set b₀ 0 1) 1 2) (firstGate (holesAt t p) + leftsAt t p - 1) (gate + 1))) where
+  module _ (d : List ℕ) (z : d ≡ startBindings (ruleAt t p) gate) (x : Bool) (b : List ℕ) (h : mask / 2 ^ leftsAt t p ≡ 0)
+      (e : attempt x b ≡ matchGates c (ruleAt t p) mask (leftsAt t p) d) where
     at-found : verdictBy (attempt x b) ≡ matchAt c (ruleAt t p) gate mask
     at-found =
-        ap verdictBy
-        (e ∙ ap (λ d. matchGates c (ruleAt t p) mask (leftsAt t p) (set (set (set d 0 1) 1 2) (firstGate (holesAt t p) + leftsAt t p - 1) (gate + 1))) z ∙ match-start c t p gate mask)
+        ap verdictBy (e ∙ ap (matchGates c (ruleAt t p) mask (leftsAt t p)) z ∙ match-start c t p gate mask)
         ∙ mask-within c (ruleAt t p) gate mask (ap (λ k. mask / 2 ^ k) count ∙ h)
 
     pub at-some : x ≡ true → givenWith b passes ≡ matchAt c (ruleAt t p) gate mask

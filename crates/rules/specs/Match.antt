@@ -56,11 +56,14 @@ matchGate c m g swap b =
 abbrev pub isSwapped : (mask i : ℕ) → Bool
 isSwapped mask i = eqb (bit i mask) 1
 
+-- that of left gate i of rule u
+abbrev pub matchLeft : Circuit → Rule → (i : ℕ) (swap : Bool) (bindings : List ℕ) → Option (List ℕ)
+matchLeft c u i swap b = matchGate c (firstGate (u .holes) + i) (getD (u .lefts) i noGate) swap b
+
 -- 01, Sites, 6: the first i left gates, from the last of them to the first
 unfoldable pub matchGates : Circuit → Rule → (mask i : ℕ) (bindings : List ℕ) → Option (List ℕ)
 matchGates c u mask zero b = some b
-matchGates c u mask (suc i) b =
-    bind (matchGate c (firstGate (u .holes) + i) (getD (u .lefts) i noGate) (isSwapped mask i) b) (matchGates c u mask i)
+matchGates c u mask (suc i) b = bind (matchLeft c u i (isSwapped mask i) b) (matchGates c u mask i)
 
 -- nothing is bound
 abbrev pub unbound : List ℕ

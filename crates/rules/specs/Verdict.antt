@@ -57,6 +57,10 @@ kindVerdict Input = notAGate
 kindVerdict Gate = passes
 kindVerdict Beyond = notAGate
 
+-- the first of 1 to 3 that applies, else 0, of a rule of which the judge said `judged`: the verdicts before the match
+abbrev pub earlyVerdict : Circuit → (judged gate : ℕ) → ℕ
+earlyVerdict c judged gate = first (eqb judged passes) (first (not (isGate c gate)) notAGate passes) judged
+
 -- a verdict from 0 to 4, and the bindings of the match if it is 0; else zeros
 pub record SiteMatch : Type 0 where
   pub verdict : ℕ

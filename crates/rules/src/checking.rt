@@ -5,17 +5,20 @@ ghost use mathlib.Core.Bool.{false, not, _&&_};
 ghost use Prim.Native.Nat.{_+_, _*_, _≤_, _<_};
 ghost use lib.ListN.{length, drop};
 ghost use Rattle.lists.specs.First.{first};
+ghost use Rattle.lines.specs.Checks.{firstFound};
 ghost use Rattle.lines.specs.Text.{isPartial};
 ghost use Rattle.circuit.specs.Circuit.{constants};
 ghost use Rattle.circuit.specs.Each.{allGates};
 ghost use Rattle.circuit.specs.Refusal.{hasGateKind, operandsBelow};
 ghost use Rattle.circuit.specs.Table.{linesOf};
+ghost use Rattle.rules.specs.MatchCall.{matchChecks};
 ghost use Rattle.rules.specs.Rule.{maxLeftReferences};
 ghost use Rattle.rules.specs.RuleRefusal.{rulesHeadInLimits, ruleInLimits, ruleKindsOk, referencesOk, usesOk, rulesRefusal};
 ghost use Rattle.rules.specs.RuleTable.{ruleAt};
 ghost use Rattle.rules.specs.SiteTable.{sitesHeadInLimits, sitesAsHeadSays, sitesRefusal};
 ghost use Rattle.rules.specs.UseWord.{wordBits, mark, MarksUses, owed};
 ghost use Rattle.rules.specs.WellFormed.{RuleSized};
+use crate::RULES_TABLE;
 use crate::table::MAX_HOLES;
 use crate::table::MAX_LEFTS;
 use crate::table::MAX_RIGHTS;
@@ -27,12 +30,17 @@ use crate::table::next_rule;
 use crate::table::right_from;
 use crate::table::rules_from;
 use crate::table::sites_from;
+use circuit::CIRCUIT_TABLE;
 use circuit::checked::CONSTANTS;
 use circuit::checked::Tested;
+use circuit::checked::refusal;
 use circuit::checked::test_closing;
 use circuit::checked::test_gate;
 use circuit::checked::test_gates;
+use lines::NO_TABLE;
+use lines::Refusal;
 use lines::is_partial;
+use lines::refuse;
 
 // As many bits as a word has that says which references are used; a left side has fewer.
 const WORD_BITS: u32 = 32;
@@ -231,4 +239,25 @@ pub fn sites_refusal(t: &[u32]) -> u32
         return 5;
     }
     0
+}
+
+// The refusal of a call that matches rules in a circuit, if there is one.
+pub fn match_refusal(circuit: &[u32], rules: &[u32]) -> Refusal
+    ensures { λ r. ⌜ r ≡ firstFound (matchChecks (now (circuit .entry)) (now (rules .entry))) ⌝ }
+{
+    if is_partial(circuit) {
+        return refuse(1, CIRCUIT_TABLE);
+    }
+    if is_partial(rules) {
+        return refuse(1, RULES_TABLE);
+    }
+    let of_circuit = refusal(circuit);
+    if of_circuit != 0 {
+        return refuse(of_circuit, CIRCUIT_TABLE);
+    }
+    let of_rules = rules_refusal(rules);
+    if of_rules != 0 {
+        return refuse(of_rules, RULES_TABLE);
+    }
+    refuse(0, NO_TABLE)
 }

@@ -1,8 +1,7 @@
 // Rules and sites as tables of three numbers a line: their checks, the judge and the match (01, Rules; Sites).
 ghost use mathlib.Core.Path.{_≡_};
-ghost use Rattle.lines.specs.Checks.{firstFound};
 ghost use Rattle.rules.specs.JudgeCall.{judging, paperValues as judgedValues};
-ghost use Rattle.rules.specs.MatchCall.{matchChecks, matching, paperValues as matchedValues};
+ghost use Rattle.rules.specs.MatchCall.{matching, paperValues as matchedValues};
 
 pub mod checked;
 mod checking;
@@ -11,12 +10,9 @@ mod matching;
 mod table;
 mod verdict;
 
-use circuit::CIRCUIT_TABLE;
-use circuit::checked::refusal;
+use checking::match_refusal;
 use judging::judged_rule;
-use lines::NO_TABLE;
 use lines::Refusal;
-use lines::is_partial;
 use lines::refuse;
 use verdict::trimmed_verdict;
 
@@ -66,27 +62,6 @@ pub fn judge(rules: &[u32], rule: u32) -> Judged
         0 => Judged::Verdict(judged_rule(rules, rule).verdict),
         _ => Judged::Refused(refuse(number, RULES_TABLE)),
     }
-}
-
-// The refusal of a call of `match_site`, if there is one.
-fn match_refusal(circuit: &[u32], rules: &[u32]) -> Refusal
-    ensures { λ r. ⌜ r ≡ firstFound (matchChecks (now (circuit .entry)) (now (rules .entry))) ⌝ }
-{
-    if is_partial(circuit) {
-        return refuse(1, CIRCUIT_TABLE);
-    }
-    if is_partial(rules) {
-        return refuse(1, RULES_TABLE);
-    }
-    let of_circuit = refusal(circuit);
-    if of_circuit != 0 {
-        return refuse(of_circuit, CIRCUIT_TABLE);
-    }
-    let of_rules = checked::rules_refusal(rules);
-    if of_rules != 0 {
-        return refuse(of_rules, RULES_TABLE);
-    }
-    refuse(0, NO_TABLE)
 }
 
 // The verdict on a site before anything is replaced there: the first of 1 to 4 that applies in the trimmed circuit, else 0.

@@ -11,7 +11,7 @@ ghost use Rattle.circuit.specs.WellFormed.{WellFormed};
 ghost use Rattle.rules.specs.Rule.{maxLeftReferences};
 ghost use Rattle.rules.specs.RuleTable.{leftsAt, ruleAt};
 ghost use Rattle.rules.specs.WellFormed.{WellFormedRule};
-ghost use Rattle.rules.specs.Match.{unbound, bindReference, matchGate, matchGates, attempt};
+ghost use Rattle.rules.specs.Match.{unbound, bindReference, matchGate, matchLeft, matchGates, startBindings, attempt};
 ghost use Rattle.rules.specs.Verdict.{givenWith, matchAt};
 use crate::NO_MATCH;
 use crate::PASSES;
@@ -105,6 +105,27 @@ fn match_gate(
     bind_operands(b, l, r, line.left, line.right)
 }
 
+// Left gate i of the rule at number p of t.
+pub fn match_left(
+    c: &[u32],
+    from: usize,
+    t: &[u32],
+    p: usize,
+    i: u32,
+    swap: bool,
+    b: &mut [u32; BINDINGS],
+) -> bool
+    requires { ⌜ WellFormed (now c) ⌝ }
+    requires { ⌜ from ≡ gatesFrom (now c) ⌝ }
+    requires { ⌜ WellFormedRule (now t) p ⌝ }
+    requires { ⌜ i < leftsAt (now t) p ⌝ }
+    ensures { λ z. ⌜ attempt z (now (b .exit)) ≡ matchLeft (decode (now (c .entry))) (ruleAt (now (t .entry)) p) i swap (now (b .entry)) ⌝ }
+{
+    let k = i as usize;
+    let base = t[p] as usize + CONSTANTS as usize;
+    match_gate(c, from, t, left_from(t, p) + 3 * k, base + k, swap, b)
+}
+
 // The left gates of the rule at number p of t, from the last to the first.
 fn match_gates(c: &[u32], t: &[u32], p: usize, mask: u32, b: &mut [u32; BINDINGS]) -> bool
     requires { ⌜ WellFormed (now c) ⌝ }
@@ -112,19 +133,29 @@ fn match_gates(c: &[u32], t: &[u32], p: usize, mask: u32, b: &mut [u32; BINDINGS
     ensures { λ z. ⌜ attempt z (now (b .exit)) ≡
         matchGates (decode (now (c .entry))) (ruleAt (now (t .entry)) p) mask (leftsAt (now (t .entry)) p) (now (b .entry)) ⌝ }
 {
-    let gates = gates_from(c);
-    let from = left_from(t, p);
-    let base = t[p] as usize + CONSTANTS as usize;
+    let from = gates_from(c);
     let mut i = t[p + 1];
     while 0 < i {
         i -= 1;
-        let k = i as usize;
         let swap = (mask >> i) % 2 == 1;
-        if !match_gate(c, gates, t, from + 3 * k, base + k, swap, b) {
+        if !match_left(c, from, t, p, i, swap, b) {
             return false;
         }
     }
     true
+}
+
+// Before the first of them, where nothing is bound yet: the constants are bound to themselves, the last left gate to the site's gate.
+pub fn start_bindings(t: &[u32], p: usize, gate: u32, b: &mut [u32; BINDINGS])
+    requires { ⌜ WellFormedRule (now t) p ⌝ }
+    requires { ⌜ gate < maxReferences ⌝ }
+    requires { ⌜ now b ≡ unbound ⌝ }
+    ensures { λ _. ⌜ now (b .exit) ≡ startBindings (ruleAt (now (t .entry)) p) gate ⌝ }
+{
+    b[0] = 1;
+    b[1] = 2;
+    let root = t[p] as usize + CONSTANTS as usize + t[p + 1] as usize - 1;
+    b[root] = gate + 1;
 }
 
 // NO_MATCH, else PASSES, of the rule at number p of t at a gate. The bindings go into b, where nothing is bound yet.
@@ -142,15 +173,10 @@ pub fn match_at(
     requires { ⌜ now b ≡ unbound ⌝ }
     ensures { λ r. ⌜ givenWith (now (b .exit)) r ≡ matchAt (decode (now (c .entry))) (ruleAt (now (t .entry)) p) gate mask ⌝ }
 {
-    let lefts = t[p + 1];
-    if mask >> lefts != 0 {
+    if mask >> t[p + 1] != 0 {
         return NO_MATCH;
     }
-    // the constants are bound to themselves, the last left gate to the site's gate
-    b[0] = 1;
-    b[1] = 2;
-    let root = t[p] as usize + CONSTANTS as usize + lefts as usize - 1;
-    b[root] = gate + 1;
+    start_bindings(t, p, gate, b);
     if match_gates(c, t, p, mask, b) {
         return PASSES;
     }

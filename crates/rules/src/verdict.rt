@@ -9,7 +9,7 @@ ghost use Rattle.circuit.specs.WellFormed.{WellFormed};
 ghost use Rattle.rules.specs.Match.{unbound};
 ghost use Rattle.rules.specs.RuleTable.{ruleAt};
 ghost use Rattle.rules.specs.WellFormed.{WellFormedRule, WellFormedRules};
-ghost use Rattle.rules.specs.Verdict.{passes, notSound, kindOf, kindVerdict, givenWith, matchJudged, matchSite};
+ghost use Rattle.rules.specs.Verdict.{passes, notSound, kindOf, kindVerdict, earlyVerdict, givenWith, matchJudged, matchSite};
 use crate::NO_RULE;
 use crate::NOT_A_GATE;
 use crate::NOT_SOUND;
@@ -59,6 +59,15 @@ fn site_verdict(judged: u32, kind: ReferenceKind) -> u32
     }
 }
 
+// The first of a site's verdicts up to NOT_A_GATE that applies, else PASSES, of a rule of which the judge said `judged`.
+pub fn early_verdict(c: &[u32], judged: u32, gate: u32) -> u32
+    requires { ⌜ WellFormed (now c) ⌝ }
+    requires { ⌜ judged ≤ notSound ⌝ }
+    ensures { λ r. ⌜ r ≡ earlyVerdict (decode (now (c .entry))) judged gate ⌝ }
+{
+    site_verdict(judged, kind_of(c, gate))
+}
+
 // The first verdict that applies, else PASSES, of the rule at number p of t, where the judge said `judged` of it. The bindings go into b.
 pub fn match_judged(
     c: &[u32],
@@ -75,7 +84,7 @@ pub fn match_judged(
     requires { ⌜ now b ≡ unbound ⌝ }
     ensures { λ r. ⌜ givenWith (now (b .exit)) r ≡ matchJudged (decode (now (c .entry))) (ruleAt (now (t .entry)) p) judged gate mask ⌝ }
 {
-    let verdict = site_verdict(judged, kind_of(c, gate));
+    let verdict = early_verdict(c, judged, gate);
     match verdict {
         NO_RULE | NOT_SOUND | NOT_A_GATE => verdict,
         PASSES | _ => match_at(c, t, p, gate, mask, b),
@@ -93,8 +102,8 @@ fn match_verdict(c: &[u32], t: &[u32], rule: u32, gate: u32, mask: u32) -> u32
     match_judged(c, t, judged.place, judged.verdict, gate, mask, &mut b)
 }
 
-// The first verdict that applies in the trimmed circuit, else PASSES. A match at a live gate binds live gates and their operands alone, so
-// that it is looked for in the circuit as it is, at the reference whose number in the trimmed one is the site's gate.
+// The first verdict that applies in the trimmed circuit, else PASSES. What a kept gate reads is kept, and trimming only renames it, so that a
+// left gate's part of the match holds there exactly if it holds in the circuit as it is: that one is taken, with the gate's number in it.
 pub fn trimmed_verdict(c: &[u32], t: &[u32], rule: u32, gate: u32, mask: u32) -> u32
     requires { ⌜ WellFormed (now c) ⌝ }
     requires { ⌜ WellFormedRules (now t) ⌝ }

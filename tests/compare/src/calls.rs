@@ -3,10 +3,12 @@
 use evaluator::checking::check_program;
 use evaluator::circuit::{CIRCUIT_NUMBERS, MOST_OUTPUTS};
 use evaluator::depth::{self, Pair};
+use evaluator::finding::{self, Found};
 use evaluator::lines::{self, Line, LINE_BYTES};
 use evaluator::listing::{self, LISTING_BYTES};
 use evaluator::machine::INSTRUCTION_NUMBERS;
 use evaluator::random::Random;
+use evaluator::refusal::Answer;
 use evaluator::rewriting::{self, Rewritten};
 use evaluator::rules::{self, Verdict};
 use evaluator::sites::MOST_SITES;
@@ -15,7 +17,8 @@ use evaluator::{evaluation, matching};
 
 use crate::call::Call;
 use crate::exports::{
-    Outcome, EVALUATE, JUDGE, LISTING, MATCH, MEASURE, READ, REWRITE, TRANSLATE, WRITE,
+    Export, Outcome, EVALUATE, FIND, JUDGE, LISTING, MATCH, MEASURE, READ, REWRITE, TRANSLATE,
+    WRITE,
 };
 use crate::library::*;
 use crate::numbers::LINE_NUMBERS;
@@ -31,6 +34,9 @@ macro_rules! call {
         unsafe { $function($($slice.pointer(), $slice.len(),)* $($($number),*)?) }
     };
 }
+
+/// A function of a circuit, rules and three numbers.
+type OnRules = unsafe extern "C" fn(*const u32, usize, *const u32, usize, u32, u32, u32) -> u64;
 
 /// The calls of one case.
 pub struct Calls<'a> {
@@ -87,14 +93,36 @@ impl Calls<'_> {
     }
 
     pub fn match_site(&mut self, circuit: &[u32], rules: &[u32], site: Line) {
-        let mut given = self.given("circuit", circuit);
-        let mut patterns = self.given("rules", rules);
         let [rule, gate, mask] = site;
         let answer = matching::match_site(circuit, rules, rule, gate, mask);
-        let result = call!(napspruce_match, given, patterns; rule, gate, mask);
-        let expected = answer.map(|verdict| vec![verdict.into()]);
-        let call = Call::new(&MATCH, result, expected, vec![&given, &patterns]);
-        self.settle(call.with_numbers(&site).with_verdicts(answer.iter()));
+        let values = answer.map(|verdict| (verdict, vec![verdict.into()]));
+        self.on_rules(&MATCH, napspruce_match, [circuit, rules], site, values);
+    }
+
+    pub fn find_mask(&mut self, circuit: &[u32], rules: &[u32], wanted: Line) {
+        let [rule, gate, limit] = wanted;
+        let answer = finding::find_mask(circuit, rules, rule, gate, limit);
+        let values = answer.map(|found| (found.outcome, found_values(found)));
+        self.on_rules(&FIND, napspruce_find, [circuit, rules], wanted, values);
+    }
+
+    /// A call that gives a verdict or outcome, and values for the number.
+    fn on_rules(
+        &mut self,
+        export: &Export,
+        function: OnRules,
+        [circuit, rules]: [&[u32]; 2],
+        numbers: Line,
+        answer: Answer<(Verdict, Vec<u64>)>,
+    ) {
+        let mut given = self.given("circuit", circuit);
+        let mut patterns = self.given("rules", rules);
+        let [first, second, third] = numbers;
+        let result = call!(function, given, patterns; first, second, third);
+        let verdict = answer.as_ref().ok().map(|(verdict, _)| *verdict);
+        let expected = answer.map(|(_, values)| values);
+        let call = Call::new(export, result, expected, vec![&given, &patterns]);
+        self.settle(call.with_numbers(&numbers).with_verdicts(verdict.iter()));
     }
 
     pub fn rewrite(&mut self, [circuit, rules, sites]: [&[u32]; 3]) {
@@ -209,6 +237,10 @@ impl Calls<'_> {
 
 fn pair_values(pair: Pair) -> [u64; 2] {
     [pair.depth, pair.critical].map(u64::from)
+}
+
+fn found_values(found: Found) -> Vec<u64> {
+    vec![found.ways.into(), found.outcome.into(), found.mask.into()]
 }
 
 fn rewritten_values(run: Rewritten) -> Vec<u64> {

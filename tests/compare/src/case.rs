@@ -1,6 +1,7 @@
 //! A case: three texts and three tables, some of them damaged, and the calls that are tried on them.
 
 use evaluator::circuit::{Circuit, MOST_INPUTS};
+use evaluator::finding::{find_mask, MOST_WAYS};
 use evaluator::generator;
 use evaluator::holding::Holding;
 use evaluator::lines::{lines_of_table, read_line, text_of, Line, LINE_BYTES};
@@ -15,11 +16,12 @@ use crate::calls::Calls;
 use crate::numbers::{
     alter, any_lines, odd_number, spoil_run, spoil_table, spoil_text, LINE_NUMBERS,
 };
-use crate::shapes::{chained, crowded, full, overfull};
+use crate::shapes::{chained, crowded, full, overfull, symmetric};
 
-/// How many rules are judged, sites matched and limits tried in a case.
+/// How many rules are judged, sites matched and searched, and limits tried in a case or search.
 const JUDGED: u32 = 6;
 const MATCHED: usize = 5;
+const SEARCHED: usize = 2;
 const LIMITS: usize = 3;
 
 /// A circuit's, a rules' and a sites' text and table; they may be damaged in different ways.
@@ -67,6 +69,7 @@ impl Case {
         try_evaluate(calls, circuit);
         try_judge(calls, rules);
         try_match(calls, circuit, rules, sites);
+        try_find(calls, circuit, rules, sites);
         calls.rewrite([circuit, rules, sites]);
         try_translate(calls, circuit);
         calls.listing(self.texts.each_ref().map(Vec::as_slice));
@@ -80,6 +83,7 @@ fn texts(random: &mut Random, seed: u64, number: u64) -> [Vec<u8>; 3] {
         57 | 157 => overfull(random),
         107 => full(random),
         113 => full(random).with_wrong_starts(random),
+        rest if rest % 20 == 9 => symmetric(random),
         rest if rest % 10 == 3 => {
             let draft = chained(random);
             if random.chance(30) {
@@ -153,14 +157,45 @@ fn try_judge(calls: &mut Calls, rules: &[u32]) {
 
 /// The match at the first few sites, and at one of them with another number.
 fn try_match(calls: &mut Calls, circuit: &[u32], rules: &[u32], sites: &[u32]) {
-    let (lines, _) = sites.as_chunks::<LINE_NUMBERS>();
-    let mut tried: Vec<Line> = lines.iter().skip(1).take(MATCHED).copied().collect();
-    let mut other = tried.first().copied().unwrap_or_default();
-    alter(&mut calls.random, &mut other, 0);
-    tried.push(other);
-    for site in tried {
+    for site in some_sites(&mut calls.random, sites, MATCHED) {
         calls.match_site(circuit, rules, site);
     }
+}
+
+/// The finder at the first few sites, at one of them with another number, and at the end of the circuit, each with limits around
+/// the ways and at the ends of the range.
+fn try_find(calls: &mut Calls, circuit: &[u32], rules: &[u32], sites: &[u32]) {
+    let mut searched = some_sites(&mut calls.random, sites, SEARCHED);
+    searched.push(end_site(&mut calls.random, circuit, rules));
+    for [rule, gate, _] in searched {
+        let found = find_mask(circuit, rules, rule, gate, MOST_WAYS);
+        let ways = found.map_or(9, |found| found.ways.max(1));
+        let any = odd_number(&mut calls.random, ways);
+        let near = [ways - 1, ways, ways + 1];
+        let most = MOST_WAYS;
+        let limits = [&near[..], &near, &near, &[0, 1, 2, most, most + 1, any]].concat();
+        for _ in 0..LIMITS {
+            let limit = calls.random.pick(&limits);
+            calls.find_mask(circuit, rules, [rule, gate, limit]);
+        }
+    }
+}
+
+/// The first few sites, and one of them with another number.
+fn some_sites(random: &mut Random, sites: &[u32], count: usize) -> Vec<Line> {
+    let (lines, _) = sites.as_chunks::<LINE_NUMBERS>();
+    let mut some: Vec<Line> = lines.iter().skip(1).take(count).copied().collect();
+    let mut other = some.first().copied().unwrap_or_default();
+    alter(random, &mut other, 0);
+    some.push(other);
+    some
+}
+
+/// Any rule at the last gate of a trimmed circuit, with mask 0.
+fn end_site(random: &mut Random, circuit: &[u32], rules: &[u32]) -> Line {
+    let last = trimmed(circuit).map_or(0, |trimmed| trimmed.references() - 1);
+    let rule = random.between(1, head(rules, MOST_RULES).max(1) as usize);
+    [rule as u32, last as u32, 0]
 }
 
 /// The translator at limits around the need and at the ends of the range.
@@ -177,9 +212,13 @@ fn try_translate(calls: &mut Calls, circuit: &[u32]) {
 
 /// The need of a circuit's table, if it is one.
 fn need(circuit: &[u32]) -> Option<u32> {
+    Some(Holding::of(&trimmed(circuit)?).need() as u32)
+}
+
+/// The trimmed circuit of a table, if it is one.
+fn trimmed(circuit: &[u32]) -> Option<Circuit> {
     let lines = lines_of_table(circuit, CIRCUIT).ok()?;
-    let trimmed = Circuit::checked(&lines).ok()?.trimmed();
-    Some(Holding::of(&trimmed).need() as u32)
+    Some(Circuit::checked(&lines).ok()?.trimmed())
 }
 
 /// The first number of a table, if there is one, up to the largest that it may be.

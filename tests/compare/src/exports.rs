@@ -12,7 +12,7 @@ pub struct Export {
     pub name: &'static str,
     fields: &'static [Field],
     refusals: &'static [&'static [Refusal]],
-    /// How many verdicts it can give, from 0.
+    /// How many verdicts, or outcomes of a search, it can give, from 0.
     verdicts: u8,
 }
 
@@ -30,6 +30,7 @@ const fn field(shift: u32, width: u32) -> Field {
 
 const WHOLE: &[Field] = &[field(0, 64)];
 const HALVES: &[Field] = &[field(32, 32), field(0, 32)];
+const FOUND: &[Field] = &[field(32, 32), field(16, 16), field(0, 16)];
 const REWRITTEN: &[Field] = &[
     field(48, 16),
     field(36, 12),
@@ -69,6 +70,7 @@ const BAD_RULES: &[Refusal] = &[
 const BAD_SITES: &[Refusal] = &[refusal(4, SITES), refusal(5, SITES)];
 const WRONG_INPUTS: &[Refusal] = &[refusal(1, NO_TABLE)];
 const WRONG_LIMIT: &[Refusal] = &[refusal(9, NO_TABLE), refusal(10, NO_TABLE)];
+const WRONG_WAYS: &[Refusal] = &[refusal(12, NO_TABLE)];
 
 const fn export(
     name: &'static str,
@@ -100,6 +102,12 @@ pub const MATCH: Export = export(
     &[TORN_CIRCUIT, TORN_RULES, BAD_CIRCUIT, BAD_RULES],
     5,
 );
+pub const FIND: Export = export(
+    "find",
+    FOUND,
+    &[TORN_CIRCUIT, TORN_RULES, BAD_CIRCUIT, BAD_RULES, WRONG_WAYS],
+    6,
+);
 pub const REWRITE: Export = export(
     "rewrite",
     REWRITTEN,
@@ -126,8 +134,8 @@ pub const LISTING: Export = export(
     7,
 );
 
-pub const EXPORTS: [Export; 9] = [
-    READ, WRITE, EVALUATE, MEASURE, JUDGE, MATCH, REWRITE, TRANSLATE, LISTING,
+pub const EXPORTS: [Export; 10] = [
+    READ, WRITE, EVALUATE, MEASURE, JUDGE, MATCH, FIND, REWRITE, TRANSLATE, LISTING,
 ];
 
 impl Export {

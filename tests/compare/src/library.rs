@@ -32,6 +32,15 @@ extern "C" {
         gate: u32,
         mask: u32,
     ) -> u64;
+    pub fn napspruce_find(
+        circuit: *const u32,
+        circuit_len: usize,
+        rules: *const u32,
+        rules_len: usize,
+        rule: u32,
+        gate: u32,
+        limit: u32,
+    ) -> u64;
     pub fn napspruce_rewrite(
         circuit: *const u32,
         circuit_len: usize,

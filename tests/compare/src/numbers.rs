@@ -6,7 +6,7 @@ use evaluator::random::Random;
 pub const LINE_NUMBERS: usize = 3;
 
 /// Limits of 01 and 02 and their neighbours, numbers whose triple is near 2 to the power 32, and the largest.
-const ODD: [u32; 31] = [
+const ODD: [u32; 33] = [
     0,
     1,
     2,
@@ -27,9 +27,11 @@ const ODD: [u32; 31] = [
     2049,
     2561,
     2562,
+    65_534,
+    65_535,
+    1 << 16,
     999_999,
     1_000_000,
-    1 << 16,
     u32::MAX / 3,
     u32::MAX / 3 + 1,
     1 << 30,

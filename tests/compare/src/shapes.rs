@@ -4,7 +4,7 @@ use std::collections::VecDeque;
 
 use evaluator::circuit::{Circuit, MOST_GATES, MOST_INPUTS, MOST_OUTPUTS};
 use evaluator::gates::{Gate, Kind, CONSTANTS};
-use evaluator::generator::{outnumber, some_starts, spoil_starts, stock};
+use evaluator::generator::{outnumber, some_starts, spoil_starts, stock, symmetric_rule};
 use evaluator::lines::Line;
 use evaluator::random::Random;
 use evaluator::rules::{Rule, MOST_HOLES, MOST_RULES, MOST_SIDE_GATES};
@@ -137,22 +137,45 @@ fn any_gate(random: &mut Random, kind: Kind, own: usize) -> Gate {
 /// A rule whose pattern is a chain of up to as many gates as there may be, a circuit with that pattern in it, and sites there.
 pub fn chained(random: &mut Random) -> Draft {
     let rule = chain_rule(random);
-    let mask = random.below(1 << rule.left.len()) as u32;
+    let mask = any_mask(random, &rule);
     let (circuit, end) = planted(random, &rule, mask);
+    aimed(random, rule, circuit, end, mask)
+}
+
+/// The same with a pattern that has many ways to be searched; in half the cases the circuit differs from it in its first gate, so
+/// that all of them are tried.
+pub fn symmetric(random: &mut Random) -> Draft {
+    let rule = symmetric_rule(random);
+    let mask = any_mask(random, &rule);
+    let (mut circuit, end) = planted(random, &rule, mask);
+    if random.chance(50) {
+        let start = end + 1 - rule.left.len() - circuit.first_gate();
+        let gate = &mut circuit.gates[start];
+        gate.kind = gate.kind.other();
+    }
+    aimed(random, rule, circuit, end, mask)
+}
+
+fn any_mask(random: &mut Random, rule: &Rule) -> u32 {
+    random.below(1 << rule.left.len()) as u32
+}
+
+/// The circuit with the rule among a few others, and sites at or near a live gate.
+fn aimed(random: &mut Random, rule: Rule, circuit: Circuit, gate: usize, mask: u32) -> Draft {
     let mut rules = stock();
     let start = random.below(rules.len());
     rules.rotate_left(start);
     rules.truncate(random.below(4));
     let place = random.between(0, rules.len());
     rules.insert(place, rule);
-    let aimed = Site {
+    let site = Site {
         rule: place as u32 + 1,
-        gate: trimmed_name(&circuit, end) as u32,
+        gate: trimmed_name(&circuit, gate) as u32,
         mask,
     };
     let count = random.between(1, 8);
     Draft {
-        sites: (0..count).map(|_| near(random, aimed)).collect(),
+        sites: (0..count).map(|_| near(random, site)).collect(),
         circuit,
         rules,
     }

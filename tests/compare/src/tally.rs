@@ -41,7 +41,9 @@ impl Tally {
 
     /// Prints how often each outcome came up; one that never did is a failed test.
     pub fn test_coverage(&mut self) {
-        println!("calls that agreed: ok, refusals as number.table, verdicts as =verdict");
+        println!(
+            "calls that agreed: ok, refusals as number.table, verdicts or outcomes as =number"
+        );
         for export in &EXPORTS {
             let counted =
                 |outcome| format!("{} {}", label(outcome), self.count_of(export, outcome));

@@ -8,7 +8,8 @@ use std::{fs, io};
 use crate::circuit::{Circuit, MOST_OUTPUTS};
 use crate::depth::measure;
 use crate::evaluation::evaluate;
-use crate::lines;
+use crate::finding::{find_mask, MOST_WAYS};
+use crate::lines::{self, Line};
 use crate::listing::program_output;
 use crate::machine::{run, Value, INSTRUCTION_NUMBERS};
 use crate::matching::match_site;
@@ -24,6 +25,9 @@ const SITES_ROOM: usize = 1_539;
 
 /// The register limits that every circuit is translated with.
 const LIMITS: [u32; 9] = [0, 1, 2, 3, 4, 6, 10, 1024, 1025];
+
+/// The largest numbers, which are tried beside the sites.
+const LARGEST: [Line; 2] = [[1, u32::MAX, u32::MAX], [u32::MAX; 3]];
 
 /// What is printed for each case of a folder, whose `args` name three files of
 /// its `data` a case; one that can't be opened is empty.
@@ -51,6 +55,7 @@ fn calls(circuit: &[u8], rules: &[u8], sites: &[u8]) -> String {
         inspection(&numbers(circuit, CIRCUIT_ROOM)),
         judgements(&patterns),
         matches(&gates, &patterns, &places),
+        searches(&gates, &patterns, &places),
         rewriting(&gates, &patterns, &places),
     ]
     .concat()
@@ -156,18 +161,36 @@ fn judgements(rules: &[u32]) -> String {
     format!(", judge{all}")
 }
 
+/// Each line behind the head of the sites.
+fn listed(sites: &[u32]) -> impl Iterator<Item = Line> + '_ {
+    let lines = sites.chunks_exact(3).skip(1);
+    lines.map(|line| [line[0], line[1], line[2]])
+}
+
 /// Each line behind the head of the sites, and the largest numbers.
 fn matches(circuit: &[u32], rules: &[u32], sites: &[u32]) -> String {
-    let largest = [[1, u32::MAX, u32::MAX], [u32::MAX; 3]];
-    let listed = sites
-        .chunks_exact(3)
-        .skip(1)
-        .map(|line| [line[0], line[1], line[2]]);
-    let verdict = |[rule, gate, mask]: [u32; 3]| {
+    let verdict = |[rule, gate, mask]: Line| {
         words(match_site(circuit, rules, rule, gate, mask).map(|verdict| vec![verdict]))
     };
-    let all: String = listed.chain(largest).map(verdict).collect();
+    let all: String = listed(sites).chain(LARGEST).map(verdict).collect();
     format!(", match{all}")
+}
+
+/// Outcome, mask and ways for each line behind the head of the sites, with a
+/// limit in place of its mask: 1, and one below, at and one above the ways of
+/// its search, which are 0 where there is none; and for the largest numbers.
+fn searches(circuit: &[u32], rules: &[u32], sites: &[u32]) -> String {
+    let limited = |[rule, gate, _]: Line| {
+        let ways = find_mask(circuit, rules, rule, gate, MOST_WAYS).map_or(0, |found| found.ways);
+        [1, ways.saturating_sub(1), ways, ways + 1].map(|limit| [rule, gate, limit])
+    };
+    let search = |[rule, gate, limit]: Line| {
+        let found = find_mask(circuit, rules, rule, gate, limit);
+        words(found.map(|found| vec![found.outcome.into(), found.mask, found.ways]))
+    };
+    let wanted = listed(sites).flat_map(limited).chain(LARGEST);
+    let all: String = wanted.map(search).collect();
+    format!(", find{all}")
 }
 
 /// The answer, the table that was written and how many numbers were, and the verdicts.

@@ -33,6 +33,13 @@ impl Kind {
             .find(|kind| kind.number() == number)
     }
 
+    pub fn other(self) -> Kind {
+        match self {
+            Kind::Xor => Kind::And,
+            Kind::And => Kind::Xor,
+        }
+    }
+
     pub fn apply(self, left: bool, right: bool) -> bool {
         match self {
             Kind::Xor => left != right,

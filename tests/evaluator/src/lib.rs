@@ -1,5 +1,5 @@
 //! An independent reading of paper 01, "The depth rewriter and its rules", and
-//! of request 2026-01 of paper 02, "More changes customers want".
+//! of requests 2026-01 and 2026-02 of paper 02, "More changes customers want".
 //!
 //! Everything here is plain and slow on purpose: each function renders a
 //! sentence or two of the papers, named in its comment by section. Nothing is
@@ -7,15 +7,17 @@
 //!
 //! The calls: [`lines::read`], [`lines::write`], [`evaluation::evaluate`],
 //! [`depth::measure`], [`rules::judge`], [`matching::match_site`],
-//! [`rewriting::rewrite`], [`translation::translate`], [`listing::listing`] and
-//! [`listing::program_output`]. The register programs of others are judged by
-//! [`checking::check_program`] and run by [`machine::run`].
+//! [`finding::find_mask`], [`rewriting::rewrite`], [`translation::translate`],
+//! [`listing::listing`] and [`listing::program_output`]. The register programs
+//! of others are judged by [`checking::check_program`] and run by
+//! [`machine::run`].
 
 pub mod cases;
 pub mod checking;
 pub mod circuit;
 pub mod depth;
 pub mod evaluation;
+pub mod finding;
 pub mod gates;
 pub mod generator;
 pub mod holding;

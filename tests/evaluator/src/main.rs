@@ -9,6 +9,7 @@ use evaluator::cases;
 use evaluator::circuit::MOST_OUTPUTS;
 use evaluator::depth::measure;
 use evaluator::evaluation::evaluate;
+use evaluator::finding::find_mask;
 use evaluator::generator::case;
 use evaluator::lines::lines_of_text;
 use evaluator::listing::program_output;
@@ -20,6 +21,7 @@ use evaluator::translation::{translate, PROGRAM_NUMBERS};
 const USAGE: &str = "evaluator listing CIRCUIT RULES SITES
 evaluator judge RULES RULE
 evaluator match CIRCUIT RULES RULE GATE MASK
+evaluator find CIRCUIT RULES RULE GATE LIMIT
 evaluator measure CIRCUIT
 evaluator evaluate CIRCUIT BYTE..
 evaluator translate CIRCUIT LIMIT
@@ -52,6 +54,10 @@ fn answer(words: &[&str]) -> Option<io::Result<Vec<u8>>> {
         ["match", circuit, rules, rule, gate, mask] => {
             let site = [number(rule)?, number(gate)?, number(mask)?];
             values(match_files(circuit, rules, site))
+        }
+        ["find", circuit, rules, rule, gate, limit] => {
+            let wanted = [number(rule)?, number(gate)?, number(limit)?];
+            values(find_files(circuit, rules, wanted))
         }
         ["measure", circuit] => values(measure_file(circuit)),
         ["evaluate", circuit, ref bytes @ ..] => {
@@ -108,6 +114,18 @@ fn match_files(circuit: &str, rules: &str, [rule, gate, mask]: [u32; 3]) -> Answ
     let rules = table(rules, RULES)?;
     let verdict = match_site(&circuit, &rules, rule, gate, mask)?;
     Ok(vec![u64::from(verdict)])
+}
+
+/// The outcome, the mask and the ways.
+fn find_files(circuit: &str, rules: &str, [rule, gate, limit]: [u32; 3]) -> Answer<Vec<u64>> {
+    let circuit = table(circuit, CIRCUIT)?;
+    let rules = table(rules, RULES)?;
+    let found = find_mask(&circuit, &rules, rule, gate, limit)?;
+    Ok(vec![
+        found.outcome.into(),
+        found.mask.into(),
+        found.ways.into(),
+    ])
 }
 
 fn measure_file(circuit: &str) -> Answer<Vec<u64>> {

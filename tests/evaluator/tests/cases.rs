@@ -12,8 +12,8 @@ use evaluator::listing::LISTING_BYTES;
 const LEAST: usize = 5;
 
 /// The calls as the program makes them, on whole lines: the refusals that each
-/// can give, as number/table, and how many verdicts.
-const CALLS: [(&str, &str, u32); 9] = [
+/// can give, as number/table, and how many verdicts, or outcomes of a search.
+const CALLS: [(&str, &str, u32); 10] = [
     ("validate", "1/0 3/0", 0),
     ("read and write", "1/0 3/0 2/0", 0),
     ("measure", "1/1 4/1 5/1 11/1 6/1 7/1", 0),
@@ -24,6 +24,11 @@ const CALLS: [(&str, &str, u32); 9] = [
         "match",
         "1/1 1/2 4/1 5/1 11/1 6/1 7/1 4/2 5/2 6/2 7/2 8/2",
         5,
+    ),
+    (
+        "find",
+        "1/1 1/2 4/1 5/1 11/1 6/1 7/1 4/2 5/2 6/2 7/2 8/2 12/0",
+        6,
     ),
     (
         "rewrite",
@@ -67,6 +72,7 @@ fn outcomes(case: &str) -> BTreeSet<Outcome> {
         if let Some(&(name, ..)) = call {
             let found = match name {
                 "listing" => listing_outcomes(answer),
+                "find" => search_outcomes(&words(answer)),
                 _ => call_outcomes(name, &words(answer)),
             };
             outcomes.extend(found.into_iter().map(|outcome| (name, outcome)));
@@ -101,6 +107,17 @@ fn call_outcomes(name: &str, words: &[String]) -> Vec<String> {
     let (before, verdicts) = words.split_at(verdicts);
     let refusals = before.iter().filter(|word| word.contains('/'));
     refusals.chain(verdicts).cloned().collect()
+}
+
+/// The refusals among the words, and the first of each three others: outcome,
+/// mask and ways.
+fn search_outcomes(words: &[String]) -> Vec<String> {
+    let (refusals, numbers): (Vec<String>, Vec<String>) = words[1..]
+        .iter()
+        .cloned()
+        .partition(|word| word.contains('/'));
+    let outcomes = numbers.into_iter().step_by(3);
+    refusals.into_iter().chain(outcomes).collect()
 }
 
 /// The refusal in the only line, or the verdicts in the last lines.

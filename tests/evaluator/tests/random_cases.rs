@@ -9,6 +9,7 @@ use evaluator::checking::check_program;
 use evaluator::circuit::Circuit;
 use evaluator::depth::{measure, pair, Pair};
 use evaluator::evaluation::output_bits;
+use evaluator::finding::{find_mask, MOST_WAYS};
 use evaluator::gates::CONSTANTS;
 use evaluator::generator::{case, some_starts, spoil_starts, Case, FAULTS};
 use evaluator::lines::{lines_of_text, Line};
@@ -48,6 +49,28 @@ fn every_verdict_and_every_refusal_occurs() {
     }
     assert_eq!(verdicts, (0..=6).collect());
     assert_eq!(refusals, FAULTS.into_iter().collect());
+}
+
+/// What the finder comes to for a case's rules and gates: at a limit that no
+/// search exceeds, and at half the ways.
+fn outcomes(case: &Case) -> Answer<Vec<u8>> {
+    let circuit = circuit_lines(case)?.concat();
+    let rules = lines_of_text(counted(&case.rules), RULES)?.concat();
+    let sites = lines_of_text(counted(&case.sites), SITES)?;
+    let mut outcomes = Vec::new();
+    for [rule, gate, _] in sites.into_iter().skip(1).take(9) {
+        let found = find_mask(&circuit, &rules, rule, gate, MOST_WAYS)?;
+        let half = (found.ways / 2).max(1);
+        let again = find_mask(&circuit, &rules, rule, gate, half)?;
+        outcomes.extend([found.outcome, again.outcome]);
+    }
+    Ok(outcomes)
+}
+
+#[test]
+fn every_outcome_of_the_finder_occurs() {
+    let found: BTreeSet<u8> = cases().flat_map(|case| outcomes(&case)).flatten().collect();
+    assert_eq!(found, (0..=5).collect());
 }
 
 #[test]

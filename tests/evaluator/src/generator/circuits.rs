@@ -97,7 +97,8 @@ impl Growing {
     }
 
     /// Adds a rule's left side on some references, with operands exchanged
-    /// here and there.
+    /// here and there; now and then with a first gate of the other kind, at
+    /// which a match fails last of all.
     fn plant(&mut self, random: &mut Random, rule: &Rule) {
         let mut names = vec![0, 1];
         for hole in 0..rule.holes {
@@ -106,10 +107,14 @@ impl Growing {
                 _ => self.some_reference(random),
             });
         }
+        let start = self.gates.len();
         for gate in &rule.left {
             names.push(self.next());
             let planted = gate.renamed(&names);
             self.gates.push(sometimes_swapped(random, planted));
+        }
+        if random.chance(10) {
+            self.gates[start].kind = self.gates[start].kind.other();
         }
     }
 

@@ -101,12 +101,13 @@ pub fn mixture(random: &mut Random, count: usize) -> Vec<Rule> {
 }
 
 fn any_rule(random: &mut Random) -> Rule {
-    match random.below(20) {
+    match random.below(21) {
         0..=8 => stock_variant(random),
         9..=11 => spoiled_variant(random),
         12 => minterm_to_zero(random),
         13..=14 => random_rule(random),
         15..=16 => mirrored_rule(random),
+        17 => symmetric_rule(random),
         _ => padded_variant(random),
     }
 }
@@ -228,15 +229,66 @@ fn random_rule(random: &mut Random) -> Rule {
     }
 }
 
-/// Any left side to the same with operands exchanged: sound, nothing gained.
 fn mirrored_rule(random: &mut Random) -> Rule {
     let (holes, left) = random_left(random);
+    mirrored(holes, left)
+}
+
+/// A left side to the same with operands exchanged: sound, nothing gained.
+fn mirrored(holes: usize, left: Vec<Gate>) -> Rule {
     Rule {
         holes,
         right: left.iter().map(|gate| gate.swapped()).collect(),
         closing: CONSTANTS + holes + left.len() - 1,
         left,
     }
+}
+
+/// A rule that has many ways to be searched for where it is planted, since
+/// many of its gates' parts of the match hold as written and crosswise.
+pub fn symmetric_rule(random: &mut Random) -> Rule {
+    let count = random.between(1, MOST_SIDE_GATES as usize);
+    if random.chance(50) {
+        doubled_rule(random, count)
+    } else {
+        tree_rule(random, count)
+    }
+}
+
+/// A chain in which most gates have the one before them as both operands.
+fn doubled_rule(random: &mut Random, count: usize) -> Rule {
+    let first = CONSTANTS + 1;
+    let equal = random.pick(&[50, 80, 100]);
+    let other = random.below(first);
+    let mut left = vec![Gate::new(random.pick(&[X, A]), CONSTANTS, other)];
+    for own in first + 1..first + count {
+        let operand = if random.chance(equal) {
+            own - 1
+        } else {
+            random.below(own)
+        };
+        let gate = Gate::new(random.pick(&[X, A]), own - 1, operand);
+        left.push(sometimes_swapped(random, gate));
+    }
+    mirrored(1, left)
+}
+
+/// A tree of gates of one kind: only by the holes, far below, can it be told
+/// which operand is which.
+fn tree_rule(random: &mut Random, count: usize) -> Rule {
+    let kind = random.pick(&[X, A]);
+    let holes = random.between(1, (count + 1).min(MOST_HOLES as usize));
+    let first = CONSTANTS + holes;
+    // Node k, from 1, has below it nodes 2k and 2k + 1, which beyond the last
+    // gate are holes: each of them once, then any.
+    let mut operand = |node: usize| match node.checked_sub(count + 1) {
+        None => first + count - node,
+        Some(place) if place < holes => CONSTANTS + place,
+        Some(_) => CONSTANTS + random.below(holes),
+    };
+    let nodes = (1..=count).rev();
+    let left = nodes.map(|node| Gate::new(kind, operand(2 * node), operand(2 * node + 1)));
+    mirrored(holes, left.collect())
 }
 
 /// Holes and left gates such that every one of them is used.

@@ -1,6 +1,5 @@
 -- One binding, then the other if it succeeded: `then-some`, `then-none`.
 use mathlib.Core.Path.{_∙_}
-use Prim.Native.Nat.{_-_}
 use borrow.Author.Needs.{needs}
 use Rattle.rules.specs.Match.{bindReference}
 use Rattle.rules.proofs.MatchLaws.{then-some, then-none}

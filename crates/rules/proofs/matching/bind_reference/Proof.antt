@@ -1,5 +1,4 @@
 -- An unbound reference becomes bound (`bind-new`), a bound one is compared (`bind-old`).
-use Prim.Native.Nat.{_-_}
 use borrow.Author.Needs.{needs}
 use Rattle.rules.proofs.MatchLaws.{bind-new, bind-old}
 use Rattle.rules.proofs.matching.bind_reference.Statement.{statement}

@@ -6,8 +6,8 @@ use Rattle.lines.specs.declared.Refusal.{Refusal}
 use Rattle.lines.specs.Checks.{firstFound}
 use Rattle.lines.proofs.CheckLaws.{applies-here, applies-later, found-here, found-later, found-none}
 use Rattle.rules.specs.MatchCall.{matchChecks}
-use Rattle.rules.proofs.match_refusal.Statement.{statement}
-use Rattle.rules.proofs.match_refusal.Tie as tie
+use Rattle.rules.proofs.checking.match_refusal.Statement.{statement}
+use Rattle.rules.proofs.checking.match_refusal.Tie as tie
 
 past1 : (c : tie.Else1) (r : Refusal) → let a = c .before .before .before .before .args in let ks = matchChecks (a .circuit .now) (a .rules .now) in
     r ≡ firstFound (drop 1 ks) → r ≡ firstFound ks

@@ -1,0 +1,9 @@
+pub mod EventLaws
+pub mod LimitLaws
+pub mod MaskLaws
+pub mod WayLaws
+pub mod CallLaws
+pub mod TrimmedLaws
+pub mod SearchTheorems
+pub mod CallTheorems
+pub mod Examples

@@ -1,0 +1,3 @@
+pub mod Search
+pub mod FindCall
+pub mod Theorems
