@@ -72,7 +72,7 @@ module _ (c : Circuit) (ok : Valid c) where
 
   -- ---- a reference that is kept, under its new number
 
-  pub kept-below : (v : ℕ) → isKept c v ≡ true → v < references c
+  kept-below : (v : ℕ) → isKept c v ≡ true → v < references c
   kept-below v k =
       elim (decLt v (references c)) [
         | yes h ↦ h

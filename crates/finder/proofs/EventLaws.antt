@@ -21,14 +21,6 @@ or-assoc false b c = refl
 or-false : (a b : Bool) → a ≡ false → b ≡ false → first a true b ≡ false
 or-false a b e f = rw (e, f)
 
-pub or-left : (a b : Bool) → first a true b ≡ false → a ≡ false
-or-left true b e = e
-or-left false b e = refl
-
-pub or-right : (a b : Bool) → first a true b ≡ false → b ≡ false
-or-right true b e = absurd (true≢false e)
-or-right false b e = e
-
 -- ---- the matches
 
 pub has-append : (m : ℕ) (xs ys : List Event) → has m (xs ++ ys) ≡ first (has m xs) true (has m ys)

@@ -42,7 +42,7 @@ module _ (n : ℕ) (f F : Searched) (e : f ≡ within n F) where
       ]
 
   -- a part with a match has all its ways within the limit
-  pub part-matched : f .matched ≡ true → (f ≡ F) × (F .ways ≤ n)
+  part-matched : f .matched ≡ true → (f ≡ F) × (F .ways ≤ n)
   part-matched t =
       elim (decLt n (F .ways)) [
         | yes l ↦ absurd (false≢true (sym (ap (λ (x : Searched). x .matched) (e ∙ beyond-limit n F l)) ∙ t))
@@ -58,7 +58,7 @@ module _ (n : ℕ) (f F : Searched) (e : f ≡ within n F) where
       ]
 
   -- else the whole search has more
-  pub part-over : n < f .ways → n < F .ways
+  part-over : n < f .ways → n < F .ways
   part-over h =
       elim (decLt n (F .ways)) [
         | yes l ↦ l

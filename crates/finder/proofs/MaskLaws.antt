@@ -21,17 +21,17 @@ use Rattle.finder.proofs.EventLaws.{first-has, first-zero, has-append, 
 use Rattle.finder.proofs.LimitLaws.{within-limit, beyond-limit, foundAfter}
 
 -- bits of a mask below 2 ^ i, and of one with bit i set
-pub bit-beyond : (i m : ℕ) → m < 2 ^ i → bit i m ≡ 0
+bit-beyond : (i m : ℕ) → m < 2 ^ i → bit i m ≡ 0
 bit-beyond i m l =
     let e : 0 * 2 ^ i + m ≡ m = omega arith in
     ap (λ (x : ℕ). x % 2) (ap (λ (x : ℕ). x / 2 ^ i) (sym e) ∙ high 0 i l)
 
-pub bit-set : (i m : ℕ) → m < 2 ^ i → bit i (2 ^ i + m) ≡ 1
+bit-set : (i m : ℕ) → m < 2 ^ i → bit i (2 ^ i + m) ≡ 1
 bit-set i m l =
     let e : 1 * 2 ^ i + m ≡ 2 ^ i + m = omega arith in
     ap (λ (x : ℕ). x % 2) (ap (λ (x : ℕ). x / 2 ^ i) (sym e) ∙ high 1 i l)
 
-pub bit-below : (i m k : ℕ) → k < i → bit k (2 ^ i + m) ≡ bit k m
+bit-below : (i m k : ℕ) → k < i → bit k (2 ^ i + m) ≡ bit k m
 bit-below i m k l =
     let j : ℕ = i - suc k in
     let e : i ≡ k + suc j = omega arith in

@@ -51,7 +51,8 @@ nothing = record { matched = false; mask = 0; ways = 0 }
 abbrev pub after : (ways : ℕ) → Searched → Searched
 after n s = record { matched = s .matched; mask = s .mask; ways = n + s .ways }
 
--- the same behind the trial crosswise of a gate whose bit is worth h
+-- The same behind the trial crosswise of a gate whose bit is worth h. It serves contracts of private functions alone; what the call answers does
+-- not rest on it.
 abbrev pub raised : (h : ℕ) → Searched → Searched
 raised h s = record { matched = s .matched; mask = first (s .matched) (h + s .mask) 0; ways = s .ways }
 

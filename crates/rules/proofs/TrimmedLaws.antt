@@ -32,7 +32,7 @@ use Rattle.rules.proofs.MatchLaws.{gate-high}
 
 module _ (c : Circuit) where
   -- what a rule reference is bound to in the circuit and in the trimmed one: to nothing in both, or to a reference that is kept and its new number
-  abbrev pub AlikeBinding : Option ℕ → Option ℕ → Type 0
+  abbrev AlikeBinding : Option ℕ → Option ℕ → Type 0
   AlikeBinding none none = Unit
   AlikeBinding none (some v′) = ⊥
   AlikeBinding (some v) none = ⊥
@@ -60,7 +60,7 @@ module _ (c : Circuit) where
   bind-alike (some b) (some b′) f f′ a h = h b b′ a
 
   module _ (r x : ℕ) (k : isKept c x ≡ true) (b b′ : List ℕ) (a : Alike b b′) where
-    pub bound-alike : Alike (bindTo r x b) (bindTo r (newNumber c x) b′)
+    bound-alike : Alike (bindTo r x b) (bindTo r (newNumber c x) b′)
     bound-alike =
         record {
           long = length-set b′ r (newNumber c x + 1) ∙ (a .long ∙ sym (length-set b r (x + 1)));
