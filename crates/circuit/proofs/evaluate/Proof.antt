@@ -18,12 +18,6 @@ all-passed c = passed _ (ap (λ (r : Refusal). r .number) (sym (c .before .befor
 well-formed : (c : tie.Else1) → WellFormed (c .before .before .before .before .before .before .before .args .circuit .now)
 well-formed c = accepted-is-well-formed _ .0 (all-passed c .1 .1 .0)
 
-evaluate-refusal-requires : tie.Need-evaluate-refusal-requires
-evaluate-refusal-requires c κs = search needs
-
-same-length : tie.Need-same-length
-same-length c = search needs
-
 returns : tie.Need-returns
 unfolding evaluating
 returns c = outcome-refused _ _ _ _ (c .before .before .evaluate-refusal .result) (c .before .before .evaluate-refusal .ensures) (c .if1 .taken)
@@ -37,9 +31,6 @@ evaluate-into-requires c κs =
 shared-slice-read-t12 : tie.Need-shared-slice-read-t12
 shared-slice-read-t12 c = omega (arith, well-formed (c .before .before .before .before .before) .sized)
 
-same-length-2 : tie.Need-same-length-2
-same-length-2 c = search needs
-
 returns-2 : tie.Need-returns-2
 unfolding evaluating
 returns-2 c =
@@ -49,10 +40,10 @@ pub evaluate-spec : {M : Type 1} → statement M
 evaluate-spec =
     tie.close
     (tie.spec
-    evaluate-refusal-requires
-    same-length
+    (λ c κs. search needs)  -- evaluate-refusal-requires
+    (λ c. search needs)  -- same-length
     returns
     evaluate-into-requires
     shared-slice-read-t12
-    same-length-2
+    (λ c. search needs)  -- same-length-2
     returns-2)

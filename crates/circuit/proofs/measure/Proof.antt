@@ -9,12 +9,6 @@ use Rattle.circuit.proofs.RefusalLaws.{accepted-is-well-formed}
 use Rattle.circuit.proofs.measure.Statement.{statement}
 use Rattle.circuit.proofs.measure.Tie as tie
 
-refusal-requires : tie.Need-refusal-requires
-refusal-requires c κs = search needs
-
-refuse-requires : tie.Need-refuse-requires
-refuse-requires c κs = search needs
-
 returns : tie.Need-returns
 unfolding measuring
 returns c =
@@ -31,4 +25,11 @@ returns-2 c =
     ∙ sym (answer-gives _ _ (sym (c .before .before .refusal .ensures) ∙ c .before .if1 .left, tt))
 
 pub measure-spec : {M : Type 1} → statement M
-measure-spec = tie.close (tie.spec refusal-requires refuse-requires returns pair-requires returns-2)
+measure-spec =
+    tie.close
+    (tie.spec
+    (λ c κs. search needs)  -- refusal-requires
+    (λ c κs. search needs)  -- refuse-requires
+    returns
+    pair-requires
+    returns-2)

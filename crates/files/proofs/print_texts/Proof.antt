@@ -5,9 +5,6 @@ use Rattle.napspruce.proofs.CallLaws.{numbers-fit, numbers-count}
 use Rattle.files.proofs.print_texts.Statement.{statement}
 use Rattle.files.proofs.print_texts.Tie as tie
 
-print-listing-requires : tie.Need-print-listing-requires
-print-listing-requires c κs = search needs
-
 array-share-prefix-out : tie.Need-array-share-prefix-out
 array-share-prefix-out c =
     let a = c .before .before .before .before .before .args in
@@ -20,18 +17,12 @@ slice-aggregate-print c =
     let p = c .before .print-listing in
     numbers-count (printed (a .circuit .now) (a .rules .now) (a .sites .now)) _ (p .last .1 .1 .1 .0) (p .result) (p .ensures .0) (p .ensures .1)
 
-print-requires : tie.Need-print-requires
-print-requires c κs = search needs
-
-returns : tie.Need-returns
-returns c = search needs
-
 pub print-texts-spec : {M : Type 1} → statement M
 print-texts-spec =
     tie.close
     (tie.spec
-    print-listing-requires
+    (λ c κs. search needs)  -- print-listing-requires
     array-share-prefix-out
     slice-aggregate-print
-    print-requires
-    returns)
+    (λ c κs. search needs)  -- print-requires
+    (λ c. search needs))  -- returns

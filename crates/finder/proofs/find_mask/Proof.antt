@@ -15,9 +15,6 @@ use Rattle.finder.proofs.find_mask.Tie as tie
 all-passed : (c : tie.Else1) → let a = c .before .before .before .before .before .args in Passed (findChecks (a .circuit .now) (a .rules .now) (a .limit))
 all-passed c = passed _ (ap (λ (r : Refusal). r .number) (sym (c .before .before .find-refusal .ensures)) ∙ c .if1 .left)
 
-find-refusal-requires : tie.Need-find-refusal-requires
-find-refusal-requires c κs = search needs
-
 returns : tie.Need-returns
 unfolding finding
 returns c = sym (answer-refused _ _ _ (c .before .before .find-refusal .ensures) (c .if1 .taken))
@@ -34,4 +31,9 @@ returns-2 c = c .trimmed-found .ensures ∙ sym (answer-gives _ _ (all-passed (c
 
 pub find-mask-spec : {M : Type 1} → statement M
 find-mask-spec =
-    tie.close (tie.spec find-refusal-requires returns trimmed-found-requires returns-2)
+    tie.close
+    (tie.spec
+    (λ c κs. search needs)  -- find-refusal-requires
+    returns
+    trimmed-found-requires
+    returns-2)

@@ -21,28 +21,16 @@ tables-passed c =
     found-behind (check (not (isLimit (a .limit))) 12 noTable ∷ []) (matchChecks (a .circuit .now) (a .rules .now))
     (passed _ (ap (λ (r : Refusal). r .number) (sym (c .before .before .match-refusal .ensures)) ∙ c .if1 .left))
 
-match-refusal-requires : tie.Need-match-refusal-requires
-match-refusal-requires c κs = search needs
-
 returns : tie.Need-returns
 returns c =
     let a = c .before .before .before .before .before .args in
     found-front (check (not (isLimit (a .limit))) 12 noTable ∷ []) (matchChecks (a .circuit .now) (a .rules .now)) _ (c .before .before .match-refusal .ensures) (c .if1 .taken)
-
-is-limit-requires : tie.Need-is-limit-requires
-is-limit-requires c κs = search needs
-
-refuse-requires : tie.Need-refuse-requires
-refuse-requires c κs = search needs
 
 returns-2 : tie.Need-returns-2
 returns-2 c =
     let a = c .before .before .before .before .before .before .before .before .args in
     applies-here (not (isLimit (a .limit))) _ noTable [] _ (ap not (sym (c .before .before .is-limit .ensures)) ∙ c .before .if2 .taken) (c .refuse .ensures)
     ∙ sym (tables-passed (c .before .before .before))
-
-refuse-requires-2 : tie.Need-refuse-requires-2
-refuse-requires-2 c κs = search needs
 
 returns-3 : tie.Need-returns-3
 returns-3 c =
@@ -54,10 +42,10 @@ pub find-refusal-spec : {M : Type 1} → statement M
 find-refusal-spec =
     tie.close
     (tie.spec
-    match-refusal-requires
+    (λ c κs. search needs)  -- match-refusal-requires
     returns
-    is-limit-requires
-    refuse-requires
+    (λ c κs. search needs)  -- is-limit-requires
+    (λ c κs. search needs)  -- refuse-requires
     returns-2
-    refuse-requires-2
+    (λ c κs. search needs)  -- refuse-requires-2
     returns-3)

@@ -9,21 +9,12 @@ use Rattle.lines.proofs.LineLaws.{row-length}
 use Rattle.lines.proofs.read.Statement.{statement}
 use Rattle.lines.proofs.read.Tie as tie
 
-validate-requires : tie.Need-validate-requires
-validate-requires c κs = search needs
-
-enum-known-lines : tie.Need-enum-known-lines
-enum-known-lines c = search needs
-
 -- what the validation has found
 valid : (c : tie.After-known-told) → Valid 19 isLine (c .before .before .before .before .before .before .args .text .now) (c .before .lines .given .0 .0)
 valid c = valid-is 19 isLine _ _ (sym (c .before .before .before .validate .ensures) ∙ ap paperValues (c .before .lines .given .1))
 
 mul-if1 : tie.Need-mul-if1
 mul-if1 c = omega (arith, valid c .whole .long)
-
-refuse-requires : tie.Need-refuse-requires
-refuse-requires c κs = search needs
 
 returns : tie.Need-returns
 returns c =
@@ -34,12 +25,6 @@ read-lines-requires : tie.Need-read-lines-requires
 read-lines-requires c κs =
     let v = valid (c .before .before) in
     (omega (arith, v .whole .long), (v .right, c .before .if1 .left))
-
-enum-known-refusal : tie.Need-enum-known-refusal
-enum-known-refusal c = search needs
-
-same-length : tie.Need-same-length
-same-length c = search needs
 
 returns-2 : tie.Need-returns-2
 returns-2 c =
@@ -55,13 +40,13 @@ pub read-spec : {M : Type 1} → statement M
 read-spec =
     tie.close
     (tie.spec
-    validate-requires
-    enum-known-lines
+    (λ c κs. search needs)  -- validate-requires
+    (λ c. search needs)  -- enum-known-lines
     mul-if1
-    refuse-requires
+    (λ c κs. search needs)  -- refuse-requires
     returns
     read-lines-requires
-    enum-known-refusal
-    same-length
+    (λ c. search needs)  -- enum-known-refusal
+    (λ c. search needs)  -- same-length
     returns-2
     returns-3)

@@ -8,23 +8,11 @@ use Rattle.lines.proofs.CallLaws.{valid-empty, valid-partial, valid-wro
 use Rattle.lines.proofs.validate_table.Statement.{statement}
 use Rattle.lines.proofs.validate_table.Tie as tie
 
-refuse-requires : tie.Need-refuse-requires
-refuse-requires c κs = search needs
-
 returns : tie.Need-returns
 returns c = ap (λ x. refused (x .number) (x .table)) (c .refuse .ensures) ∙ valid-empty 3 (c .before .before .before .args .table .now) isRow (c .before .if1 .taken)
 
-refuse-requires-2 : tie.Need-refuse-requires-2
-refuse-requires-2 c κs = search needs
-
 returns-2 : tie.Need-returns-2
 returns-2 c = ap (λ x. refused (x .number) (x .table)) (c .refuse2 .ensures) ∙ valid-partial 3 (c .before .before .before .before .args .table .now) isRow (c .before .before .if1 .left) (c .before .if2 .taken)
-
-are-rows-requires : tie.Need-are-rows-requires
-are-rows-requires c κs = search needs
-
-refuse-requires-3 : tie.Need-refuse-requires-3
-refuse-requires-3 c κs = search needs
 
 returns-3 : tie.Need-returns-3
 returns-3 c =
@@ -41,11 +29,11 @@ pub validate-table-spec : {M : Type 1} → statement M
 validate-table-spec =
     tie.close
     (tie.spec
-    refuse-requires
+    (λ c κs. search needs)  -- refuse-requires
     returns
-    refuse-requires-2
+    (λ c κs. search needs)  -- refuse-requires-2
     returns-2
-    are-rows-requires
-    refuse-requires-3
+    (λ c κs. search needs)  -- are-rows-requires
+    (λ c κs. search needs)  -- refuse-requires-3
     returns-3
     returns-4)

@@ -9,21 +9,12 @@ use Rattle.lines.proofs.LineLaws.{line-length}
 use Rattle.lines.proofs.write.Statement.{statement}
 use Rattle.lines.proofs.write.Tie as tie
 
-validate-table-requires : tie.Need-validate-table-requires
-validate-table-requires c κs = search needs
-
-enum-known-rows : tie.Need-enum-known-rows
-enum-known-rows c = search needs
-
 -- what the validation has found
 valid : (c : tie.After-known-told) → Valid 3 isRow (c .before .before .before .before .before .before .args .table .now) (c .before .rows .given .0 .0)
 valid c = valid-is 3 isRow _ _ (sym (c .before .before .before .validate-table .ensures) ∙ ap paperValues (c .before .rows .given .1))
 
 mul-if1 : tie.Need-mul-if1
 mul-if1 c = omega (arith, valid c .whole .long)
-
-refuse-requires : tie.Need-refuse-requires
-refuse-requires c κs = search needs
 
 returns : tie.Need-returns
 returns c =
@@ -32,12 +23,6 @@ returns c =
 
 write-lines-requires : tie.Need-write-lines-requires
 write-lines-requires c κs = omega (arith, valid (c .before .before) .whole .long)
-
-enum-known-refusal : tie.Need-enum-known-refusal
-enum-known-refusal c = search needs
-
-same-length : tie.Need-same-length
-same-length c = search needs
 
 returns-2 : tie.Need-returns-2
 returns-2 c =
@@ -53,13 +38,13 @@ pub write-spec : {M : Type 1} → statement M
 write-spec =
     tie.close
     (tie.spec
-    validate-table-requires
-    enum-known-rows
+    (λ c κs. search needs)  -- validate-table-requires
+    (λ c. search needs)  -- enum-known-rows
     mul-if1
-    refuse-requires
+    (λ c κs. search needs)  -- refuse-requires
     returns
     write-lines-requires
-    enum-known-refusal
-    same-length
+    (λ c. search needs)  -- enum-known-refusal
+    (λ c. search needs)  -- same-length
     returns-2
     returns-3)

@@ -15,18 +15,6 @@ all-passed : (c : tie.Else1) → let a = c .before .before .before .before .befo
     Passed (rewriteChecks (a .circuit .now) (a .rules .now) (a .sites .now) (a .result .now) (a .work .now) (a .verdicts .now))
 all-passed c = passed _ (ap (λ (r : Refusal). r .number) (sym (c .before .before .rewrite-refusal .ensures)) ∙ c .if1 .left)
 
-rewrite-refusal-requires : tie.Need-rewrite-refusal-requires
-rewrite-refusal-requires c κs = search needs
-
-same-length : tie.Need-same-length
-same-length c = search needs
-
-same-length-2 : tie.Need-same-length-2
-same-length-2 c = search needs
-
-same-length-3 : tie.Need-same-length-3
-same-length-3 c = search needs
-
 returns : tie.Need-returns
 unfolding rewriting
 returns c = outcome-refused _ _ _ _ _ (c .before .before .rewrite-refusal .ensures) (c .if1 .taken)
@@ -39,15 +27,6 @@ rewrite-accepted-requires c κs =
       (accepted-rules-are-well-formed _ .0 (q .1 .1 .0), (accepted-sites-are-well-formed _ .0 (q .1 .1 .1 .0), check-passed _ 1 _ (q .0))),
     )
 
-same-length-4 : tie.Need-same-length-4
-same-length-4 c = search needs
-
-same-length-5 : tie.Need-same-length-5
-same-length-5 c = search needs
-
-same-length-6 : tie.Need-same-length-6
-same-length-6 c = search needs
-
 returns-2 : tie.Need-returns-2
 unfolding rewriting
 returns-2 c =
@@ -59,13 +38,13 @@ pub rewrite-spec : {M : Type 1} → statement M
 rewrite-spec =
     tie.close
     (tie.spec
-    rewrite-refusal-requires
-    same-length
-    same-length-2
-    same-length-3
+    (λ c κs. search needs)  -- rewrite-refusal-requires
+    (λ c. search needs)  -- same-length
+    (λ c. search needs)  -- same-length-2
+    (λ c. search needs)  -- same-length-3
     returns
     rewrite-accepted-requires
-    same-length-4
-    same-length-5
-    same-length-6
+    (λ c. search needs)  -- same-length-4
+    (λ c. search needs)  -- same-length-5
+    (λ c. search needs)  -- same-length-6
     returns-2)

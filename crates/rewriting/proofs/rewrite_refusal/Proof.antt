@@ -39,71 +39,26 @@ past6 : (c : tie.Else6) (r : Refusal) → let a = c .before .before .before .bef
     r ≡ firstFound (drop 6 ks) → r ≡ firstFound ks
 past6 c r e = past5 (c .before .before) r (found-later _ _ _ r _ (c .before .rules-refusal .ensures) (c .if6 .left) e)
 
-is-partial-requires : tie.Need-is-partial-requires
-is-partial-requires c κs = search needs
-
-refuse-requires : tie.Need-refuse-requires
-refuse-requires c κs = search needs
-
 returns : tie.Need-returns
 returns c = applies-here _ _ _ _ _ (sym (c .before .before .is-partial .ensures) ∙ c .before .if1 .taken) (c .refuse .ensures)
-
-is-partial-requires-2 : tie.Need-is-partial-requires-2
-is-partial-requires-2 c κs = search needs
-
-refuse-requires-2 : tie.Need-refuse-requires-2
-refuse-requires-2 c κs = search needs
 
 returns-2 : tie.Need-returns-2
 returns-2 c = past1 (c .before .before .before) _ (applies-here _ _ _ _ _ (sym (c .before .before .is-partial2 .ensures) ∙ c .before .if2 .taken) (c .refuse2 .ensures))
 
-is-partial-requires-3 : tie.Need-is-partial-requires-3
-is-partial-requires-3 c κs = search needs
-
-refuse-requires-3 : tie.Need-refuse-requires-3
-refuse-requires-3 c κs = search needs
-
 returns-3 : tie.Need-returns-3
 returns-3 c = past2 (c .before .before .before) _ (applies-here _ _ _ _ _ (sym (c .before .before .is-partial3 .ensures) ∙ c .before .if3 .taken) (c .refuse3 .ensures))
-
-are-short-requires : tie.Need-are-short-requires
-are-short-requires c κs = search needs
-
-refuse-requires-4 : tie.Need-refuse-requires-4
-refuse-requires-4 c κs = search needs
 
 returns-4 : tie.Need-returns-4
 returns-4 c = past3 (c .before .before .before) _ (applies-here _ _ _ _ _ (sym (c .before .before .are-short .ensures) ∙ c .before .if4 .taken) (c .refuse4 .ensures))
 
-refusal-requires : tie.Need-refusal-requires
-refusal-requires c κs = search needs
-
-refuse-requires-5 : tie.Need-refuse-requires-5
-refuse-requires-5 c κs = search needs
-
 returns-5 : tie.Need-returns-5
 returns-5 c = past4 (c .before .before .before) _ (found-here _ _ _ _ _ (c .before .before .refusal .ensures) (c .before .if5 .taken) (c .refuse5 .ensures))
-
-rules-refusal-requires : tie.Need-rules-refusal-requires
-rules-refusal-requires c κs = search needs
-
-refuse-requires-6 : tie.Need-refuse-requires-6
-refuse-requires-6 c κs = search needs
 
 returns-6 : tie.Need-returns-6
 returns-6 c = past5 (c .before .before .before) _ (found-here _ _ _ _ _ (c .before .before .rules-refusal .ensures) (c .before .if6 .taken) (c .refuse6 .ensures))
 
-sites-refusal-requires : tie.Need-sites-refusal-requires
-sites-refusal-requires c κs = search needs
-
-refuse-requires-7 : tie.Need-refuse-requires-7
-refuse-requires-7 c κs = search needs
-
 returns-7 : tie.Need-returns-7
 returns-7 c = past6 (c .before .before .before) _ (found-here _ _ _ _ _ (c .before .before .sites-refusal .ensures) (c .before .if7 .taken) (c .refuse7 .ensures))
-
-refuse-requires-8 : tie.Need-refuse-requires-8
-refuse-requires-8 c κs = search needs
 
 returns-8 : tie.Need-returns-8
 returns-8 c = past6 (c .before .before .before) _ (found-later _ _ _ _ _ (c .before .before .sites-refusal .ensures) (c .before .if7 .left) (c .refuse8 .ensures ∙ found-none))
@@ -112,26 +67,26 @@ pub rewrite-refusal-spec : {M : Type 1} → statement M
 rewrite-refusal-spec =
     tie.close
     (tie.spec
-    is-partial-requires
-    refuse-requires
+    (λ c κs. search needs)  -- is-partial-requires
+    (λ c κs. search needs)  -- refuse-requires
     returns
-    is-partial-requires-2
-    refuse-requires-2
+    (λ c κs. search needs)  -- is-partial-requires-2
+    (λ c κs. search needs)  -- refuse-requires-2
     returns-2
-    is-partial-requires-3
-    refuse-requires-3
+    (λ c κs. search needs)  -- is-partial-requires-3
+    (λ c κs. search needs)  -- refuse-requires-3
     returns-3
-    are-short-requires
-    refuse-requires-4
+    (λ c κs. search needs)  -- are-short-requires
+    (λ c κs. search needs)  -- refuse-requires-4
     returns-4
-    refusal-requires
-    refuse-requires-5
+    (λ c κs. search needs)  -- refusal-requires
+    (λ c κs. search needs)  -- refuse-requires-5
     returns-5
-    rules-refusal-requires
-    refuse-requires-6
+    (λ c κs. search needs)  -- rules-refusal-requires
+    (λ c κs. search needs)  -- refuse-requires-6
     returns-6
-    sites-refusal-requires
-    refuse-requires-7
+    (λ c κs. search needs)  -- sites-refusal-requires
+    (λ c κs. search needs)  -- refuse-requires-7
     returns-7
-    refuse-requires-8
+    (λ c κs. search needs)  -- refuse-requires-8
     returns-8)

@@ -10,14 +10,8 @@ use Rattle.rules.proofs.RefusalLaws.{accepted-rules-are-well-formed}
 use Rattle.rules.proofs.judge.Statement.{statement}
 use Rattle.rules.proofs.judge.Tie as tie
 
-rules-refusal-requires : tie.Need-rules-refusal-requires
-rules-refusal-requires c κs = search needs
-
 judged-rule-requires : tie.Need-judged-rule-requires
 judged-rule-requires c κs = accepted-rules-are-well-formed _ .0 (sym (c .before .rules-refusal .ensures) ∙ c .match .keys1)
-
-refuse-requires : tie.Need-refuse-requires
-refuse-requires c κs = search needs
 
 returns : tie.Need-returns
 unfolding judging
@@ -32,4 +26,11 @@ returns-2 c =
     sym (answer-refused _ _ (c .refuse .result) f (λ z. some (ap (λ r. r .number) (sym (c .refuse .ensures)) ∙ z)))
 
 pub judge-spec : {M : Type 1} → statement M
-judge-spec = tie.close (tie.spec rules-refusal-requires judged-rule-requires refuse-requires returns returns-2)
+judge-spec =
+    tie.close
+    (tie.spec
+    (λ c κs. search needs)  -- rules-refusal-requires
+    judged-rule-requires
+    (λ c κs. search needs)  -- refuse-requires
+    returns
+    returns-2)

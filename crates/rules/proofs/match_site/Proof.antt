@@ -16,9 +16,6 @@ use Rattle.rules.proofs.match_site.Tie as tie
 all-passed : (c : tie.Else1) → let a = c .before .before .before .before .before .args in Passed (matchChecks (a .circuit .now) (a .rules .now))
 all-passed c = passed _ (ap (λ (r : Refusal). r .number) (sym (c .before .before .match-refusal .ensures)) ∙ c .if1 .left)
 
-match-refusal-requires : tie.Need-match-refusal-requires
-match-refusal-requires c κs = search needs
-
 returns : tie.Need-returns
 unfolding matching
 returns c = sym (answer-refused _ _ _ (c .before .before .match-refusal .ensures) (c .if1 .taken))
@@ -36,4 +33,10 @@ returns-2 c =
     ∙ sym (answer-gives _ _ (all-passed (c .before)))
 
 pub match-site-spec : {M : Type 1} → statement M
-match-site-spec = tie.close (tie.spec match-refusal-requires returns trimmed-verdict-requires returns-2)
+match-site-spec =
+    tie.close
+    (tie.spec
+    (λ c κs. search needs)  -- match-refusal-requires
+    returns
+    trimmed-verdict-requires
+    returns-2)

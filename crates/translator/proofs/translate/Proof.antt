@@ -16,12 +16,6 @@ use Rattle.translator.proofs.translate.Tie as tie
 all-passed : (c : tie.Else1) → let a = c .before .before .before .before .before .before .args in Passed (translateChecks (a .circuit .now) (a .limit) (a .program .now))
 all-passed c = passed _ (ap (λ (r : Refusal). r .number) (sym (c .before .before .translate-refusal .ensures)) ∙ c .if1 .left)
 
-translate-refusal-requires : tie.Need-translate-refusal-requires
-translate-refusal-requires c κs = search needs
-
-same-length : tie.Need-same-length
-same-length c = search needs
-
 returns : tie.Need-returns
 unfolding translating
 returns c =
@@ -36,9 +30,6 @@ translate-accepted-requires c κs =
       (leb-true limit maxRegisters (right-of (leb 1 limit) _ (not-false _ (check-passed _ 8 _ (p .1 .1 .1 .0)))), ltb-false _ _ (check-passed _ 1 _ (p .1 .0))),
     )
 
-same-length-2 : tie.Need-same-length-2
-same-length-2 c = search needs
-
 returns-2 : tie.Need-returns-2
 returns-2 c = c .before .before .translate-accepted .ensures ∙ translation-accepted _ _ _ (all-passed (c .before .before .before .before))
 
@@ -46,9 +37,9 @@ pub translate-spec : {M : Type 1} → statement M
 translate-spec =
     tie.close
     (tie.spec
-    translate-refusal-requires
-    same-length
+    (λ c κs. search needs)  -- translate-refusal-requires
+    (λ c. search needs)  -- same-length
     returns
     translate-accepted-requires
-    same-length-2
+    (λ c. search needs)  -- same-length-2
     returns-2)

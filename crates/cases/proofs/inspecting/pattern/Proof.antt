@@ -13,37 +13,16 @@ Inv-loop number bytes₀ i₀ bytes i = (i ≤ maxInputs + 1) × (maxInputs + 1 
 abbrev μ-loop : tie.MeasureT-loop
 μ-loop number bytes₀ i₀ bytes i = maxInputs + 1 - i
 
-loop-holds : tie.Need-loop-holds Inv-loop μ-loop
-loop-holds c = search needs
-
-pattern-byte-requires : tie.Need-pattern-byte-requires Inv-loop μ-loop
-pattern-byte-requires c κs = search needs
-
-array-write-bytes : tie.Need-array-write-bytes Inv-loop μ-loop
-array-write-bytes c = search needs
-
-add-i : tie.Need-add-i Inv-loop μ-loop
-add-i c = search needs
-
-loop-less : tie.Need-loop-less Inv-loop μ-loop
-loop-less c = search needs
-
-loop-again : tie.Need-loop-again Inv-loop μ-loop
-loop-again c = search needs
-
-returns : tie.Need-returns Inv-loop μ-loop
-returns c = search needs
-
 pub pattern-spec : {M : Type 1} → statement M
 pattern-spec =
     tie.close
     (tie.spec
     Inv-loop
     μ-loop
-    loop-holds
-    pattern-byte-requires
-    array-write-bytes
-    add-i
-    loop-less
-    loop-again
-    returns)
+    (λ c. search needs)  -- loop-holds
+    (λ c κs. search needs)  -- pattern-byte-requires
+    (λ c. search needs)  -- array-write-bytes
+    (λ c. search needs)  -- add-i
+    (λ c. search needs)  -- loop-less
+    (λ c. search needs)  -- loop-again
+    (λ c. search needs))  -- returns

@@ -13,35 +13,8 @@ Inv-loop bits i₀ i-end i = (i-end ≡ length bits) × (i ≤ i-end)
 abbrev μ-loop : tie.MeasureT-loop
 μ-loop bits i₀ i-end i = i-end - i
 
-slice-aggregate-write-all : tie.Need-slice-aggregate-write-all Inv-loop μ-loop
-slice-aggregate-write-all c = search needs
-
-write-all-requires : tie.Need-write-all-requires Inv-loop μ-loop
-write-all-requires c κs = search needs
-
-loop-holds : tie.Need-loop-holds Inv-loop μ-loop
-loop-holds c = search needs
-
-shared-slice-read-print-decimal : tie.Need-shared-slice-read-print-decimal Inv-loop μ-loop
-shared-slice-read-print-decimal c = search needs
-
 cast-print-decimal : tie.Need-cast-print-decimal Inv-loop μ-loop
 cast-print-decimal c = omega (arith, c .shared-slice-known2 .given (c .before .before .loop .i))
-
-print-decimal-requires : tie.Need-print-decimal-requires Inv-loop μ-loop
-print-decimal-requires c κs = search needs
-
-add-i : tie.Need-add-i Inv-loop μ-loop
-add-i c = search needs
-
-loop-less : tie.Need-loop-less Inv-loop μ-loop
-loop-less c = search needs
-
-loop-again : tie.Need-loop-again Inv-loop μ-loop
-loop-again c = search needs
-
-returns : tie.Need-returns Inv-loop μ-loop
-returns c = search needs
 
 pub print-bits-spec : {M : Type 1} → statement M
 print-bits-spec =
@@ -49,13 +22,13 @@ print-bits-spec =
     (tie.spec
     Inv-loop
     μ-loop
-    slice-aggregate-write-all
-    write-all-requires
-    loop-holds
-    shared-slice-read-print-decimal
+    (λ c. search needs)  -- slice-aggregate-write-all
+    (λ c κs. search needs)  -- write-all-requires
+    (λ c. search needs)  -- loop-holds
+    (λ c. search needs)  -- shared-slice-read-print-decimal
     cast-print-decimal
-    print-decimal-requires
-    add-i
-    loop-less
-    loop-again
-    returns)
+    (λ c κs. search needs)  -- print-decimal-requires
+    (λ c. search needs)  -- add-i
+    (λ c. search needs)  -- loop-less
+    (λ c. search needs)  -- loop-again
+    (λ c. search needs))  -- returns

@@ -10,45 +10,18 @@ Inv-loop rules last rule₀ rule = last ≤ 65
 abbrev μ-loop : tie.MeasureT-loop
 μ-loop rules last rule₀ rule = 66 - rule
 
-rule-count-requires : tie.Need-rule-count-requires Inv-loop μ-loop
-rule-count-requires c κs = search needs
-
-add-last : tie.Need-add-last Inv-loop μ-loop
-add-last c = search needs
-
-loop-holds : tie.Need-loop-holds Inv-loop μ-loop
-loop-holds c = search needs
-
-print-judgement-requires : tie.Need-print-judgement-requires Inv-loop μ-loop
-print-judgement-requires c κs = search needs
-
-add-rule : tie.Need-add-rule Inv-loop μ-loop
-add-rule c = search needs
-
-loop-less : tie.Need-loop-less Inv-loop μ-loop
-loop-less c = search needs
-
-loop-again : tie.Need-loop-again Inv-loop μ-loop
-loop-again c = search needs
-
-print-judgement-requires-2 : tie.Need-print-judgement-requires-2 Inv-loop μ-loop
-print-judgement-requires-2 c κs = search needs
-
-returns : tie.Need-returns Inv-loop μ-loop
-returns c = search needs
-
 pub print-judgements-spec : {M : Type 1} → statement M
 print-judgements-spec =
     tie.close
     (tie.spec
     Inv-loop
     μ-loop
-    rule-count-requires
-    add-last
-    loop-holds
-    print-judgement-requires
-    add-rule
-    loop-less
-    loop-again
-    print-judgement-requires-2
-    returns)
+    (λ c κs. search needs)  -- rule-count-requires
+    (λ c. search needs)  -- add-last
+    (λ c. search needs)  -- loop-holds
+    (λ c κs. search needs)  -- print-judgement-requires
+    (λ c. search needs)  -- add-rule
+    (λ c. search needs)  -- loop-less
+    (λ c. search needs)  -- loop-again
+    (λ c κs. search needs)  -- print-judgement-requires-2
+    (λ c. search needs))  -- returns

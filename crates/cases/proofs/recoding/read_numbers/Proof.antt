@@ -10,12 +10,6 @@ use Rattle.cases.proofs.RecodingLaws.{read-so, room-so}
 use Rattle.cases.proofs.recoding.read_numbers.Statement.{statement}
 use Rattle.cases.proofs.recoding.read_numbers.Tie as tie
 
-read-requires : tie.Need-read-requires
-read-requires c κs = search needs
-
-enum-known-lines : tie.Need-enum-known-lines
-enum-known-lines c = search needs
-
 -- what the reading has left
 so : (c : tie.After-known-told) → let s = c .before .before .before .before .before .before .before .before .before .args in
     Converted 19 3 isLine readLine (s .text .now) (s .table .now) (reading (s .text .now) (s .table .now) .buffers) (c .before .lines .given .0 .0)
@@ -24,32 +18,20 @@ so c = read-so _ _ _ _ (c .before .before .before .before .before .read .ensures
 mul-result : tie.Need-mul-result
 mul-result c = omega (arith, so c .valid .whole .long)
 
-enum-told : tie.Need-enum-told
-enum-told c = search needs
-
-same-length : tie.Need-same-length
-same-length c = search needs
-
 returns : tie.Need-returns
 returns c =
     let h = room-so _ _ _ _ (c .before .before .before .before .before .read .ensures) _ (c .before .lines .given .1) in
     (h, sym (length-take-le _ _ h))
 
-same-length-2 : tie.Need-same-length-2
-same-length-2 c = search needs
-
-returns-2 : tie.Need-returns-2
-returns-2 c = search needs
-
 pub read-numbers-spec : {M : Type 1} → statement M
 read-numbers-spec =
     tie.close
     (tie.spec
-    read-requires
-    enum-known-lines
+    (λ c κs. search needs)  -- read-requires
+    (λ c. search needs)  -- enum-known-lines
     mul-result
-    enum-told
-    same-length
+    (λ c. search needs)  -- enum-told
+    (λ c. search needs)  -- same-length
     returns
-    same-length-2
-    returns-2)
+    (λ c. search needs)  -- same-length-2
+    (λ c. search needs))  -- returns-2

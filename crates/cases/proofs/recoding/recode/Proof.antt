@@ -10,12 +10,6 @@ use Rattle.cases.proofs.RecodingLaws.{table-is, refused-so, read-so, wr
 use Rattle.cases.proofs.recoding.recode.Statement.{statement}
 use Rattle.cases.proofs.recoding.recode.Tie as tie
 
-read-requires : tie.Need-read-requires
-read-requires c κs = search needs
-
-enum-known-lines : tie.Need-enum-known-lines
-enum-known-lines c = search needs
-
 -- what the reading has left
 so : (c : tie.After-known-told) → let s = c .before .before .before .before .before .before .before .before .before .before .args in
     Converted 19 3 isLine readLine (s .text .now) (s .table .now) (reading (s .text .now) (s .table .now) .buffers) (c .before .lines .given .0 .0)
@@ -30,26 +24,11 @@ slice-reshare-prefix-write c = omega (arith, so c .room)
 slice-aggregate-write : tie.Need-slice-aggregate-write
 slice-aggregate-write c = sym (length-take-le _ _ (slice-reshare-prefix-write (c .before)))
 
-write-requires : tie.Need-write-requires
-write-requires c κs = search needs
-
-enum-known-refusal : tie.Need-enum-known-refusal
-enum-known-refusal c = search needs
-
-same-length : tie.Need-same-length
-same-length c = search needs
-
-same-length-2 : tie.Need-same-length-2
-same-length-2 c = search needs
-
 returns : tie.Need-returns
 returns c =
     let t = c .before .before .before .before .before .before in
     let r = t .before .before .before .before .read in
     (written-so _ _ _ (r .result) (r .ensures) _ (t .lines .given .1) _ _ (c .before .before .write .ensures), table-is _ _ _ (r .result) (r .ensures))
-
-same-length-3 : tie.Need-same-length-3
-same-length-3 c = search needs
 
 returns-2 : tie.Need-returns-2
 returns-2 c =
@@ -60,15 +39,15 @@ pub recode-spec : {M : Type 1} → statement M
 recode-spec =
     tie.close
     (tie.spec
-    read-requires
-    enum-known-lines
+    (λ c κs. search needs)  -- read-requires
+    (λ c. search needs)  -- enum-known-lines
     mul-end
     slice-reshare-prefix-write
     slice-aggregate-write
-    write-requires
-    enum-known-refusal
-    same-length
-    same-length-2
+    (λ c κs. search needs)  -- write-requires
+    (λ c. search needs)  -- enum-known-refusal
+    (λ c. search needs)  -- same-length
+    (λ c. search needs)  -- same-length-2
     returns
-    same-length-3
+    (λ c. search needs)  -- same-length-3
     returns-2)

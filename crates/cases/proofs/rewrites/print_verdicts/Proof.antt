@@ -11,41 +11,17 @@ Inv-loop verdicts i₀ i-end i = Unit {0}
 abbrev μ-loop : tie.MeasureT-loop
 μ-loop verdicts i₀ i-end i = length verdicts - i
 
-loop-holds : tie.Need-loop-holds Inv-loop μ-loop
-loop-holds c = search needs
-
-shared-slice-read-if1 : tie.Need-shared-slice-read-if1 Inv-loop μ-loop
-shared-slice-read-if1 c = search needs
-
-shared-slice-read-print-byte : tie.Need-shared-slice-read-print-byte Inv-loop μ-loop
-shared-slice-read-print-byte c = search needs
-
-print-byte-requires : tie.Need-print-byte-requires Inv-loop μ-loop
-print-byte-requires c κs = search needs
-
-add-i : tie.Need-add-i Inv-loop μ-loop
-add-i c = search needs
-
-loop-less : tie.Need-loop-less Inv-loop μ-loop
-loop-less c = search needs
-
-loop-again : tie.Need-loop-again Inv-loop μ-loop
-loop-again c = search needs
-
-returns : tie.Need-returns Inv-loop μ-loop
-returns c = search needs
-
 pub print-verdicts-spec : {M : Type 1} → statement M
 print-verdicts-spec =
     tie.close
     (tie.spec
     Inv-loop
     μ-loop
-    loop-holds
-    shared-slice-read-if1
-    shared-slice-read-print-byte
-    print-byte-requires
-    add-i
-    loop-less
-    loop-again
-    returns)
+    (λ c. search needs)  -- loop-holds
+    (λ c. search needs)  -- shared-slice-read-if1
+    (λ c. search needs)  -- shared-slice-read-print-byte
+    (λ c κs. search needs)  -- print-byte-requires
+    (λ c. search needs)  -- add-i
+    (λ c. search needs)  -- loop-less
+    (λ c. search needs)  -- loop-again
+    (λ c. search needs))  -- returns

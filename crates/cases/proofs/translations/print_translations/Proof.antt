@@ -12,41 +12,17 @@ Inv-loop circuit limits i₀ i = length limits ≡ 9
 abbrev μ-loop : tie.MeasureT-loop
 μ-loop circuit limits i₀ i = 9 - i
 
-loop-holds : tie.Need-loop-holds Inv-loop μ-loop
-loop-holds c = search needs
-
-mul-print-translation : tie.Need-mul-print-translation Inv-loop μ-loop
-mul-print-translation c = search needs
-
-array-read-print-translation : tie.Need-array-read-print-translation Inv-loop μ-loop
-array-read-print-translation c = search needs
-
-print-translation-requires : tie.Need-print-translation-requires Inv-loop μ-loop
-print-translation-requires c κs = search needs
-
-add-i : tie.Need-add-i Inv-loop μ-loop
-add-i c = search needs
-
-loop-less : tie.Need-loop-less Inv-loop μ-loop
-loop-less c = search needs
-
-loop-again : tie.Need-loop-again Inv-loop μ-loop
-loop-again c = search needs
-
-returns : tie.Need-returns Inv-loop μ-loop
-returns c = search needs
-
 pub print-translations-spec : {M : Type 1} → statement M
 print-translations-spec =
     tie.close
     (tie.spec
     Inv-loop
     μ-loop
-    loop-holds
-    mul-print-translation
-    array-read-print-translation
-    print-translation-requires
-    add-i
-    loop-less
-    loop-again
-    returns)
+    (λ c. search needs)  -- loop-holds
+    (λ c. search needs)  -- mul-print-translation
+    (λ c. search needs)  -- array-read-print-translation
+    (λ c κs. search needs)  -- print-translation-requires
+    (λ c. search needs)  -- add-i
+    (λ c. search needs)  -- loop-less
+    (λ c. search needs)  -- loop-again
+    (λ c. search needs))  -- returns

@@ -10,28 +10,10 @@ use borrow.Author.Needs.{needs}
 use Rattle.circuit.proofs.checking.lines_as_head_says.Statement.{statement}
 use Rattle.circuit.proofs.checking.lines_as_head_says.Tie as tie
 
-shared-slice-read-gates : tie.Need-shared-slice-read-gates
-shared-slice-read-gates c = search needs
-
-cast-gates : tie.Need-cast-gates
-cast-gates c = search needs
-
-shared-slice-read-outputs : tie.Need-shared-slice-read-outputs
-shared-slice-read-outputs c = search needs
-
-cast-outputs : tie.Need-cast-outputs
-cast-outputs c = search needs
-
-mul-result : tie.Need-mul-result
-mul-result c = search needs
-
 add-result : tie.Need-add-result
 add-result c =
     let t = c .before .before .args .t .now in
     omega (arith, run-fits (drop 3 t), length-drop 3 t, c .before .before .pre)
-
-mul-result-2 : tie.Need-mul-result-2
-mul-result-2 c = search needs
 
 add-result-2 : tie.Need-add-result-2
 add-result-2 c =
@@ -47,12 +29,12 @@ pub lines-as-head-says-spec : {M : Type 1} → statement M
 lines-as-head-says-spec =
     tie.close
     (tie.spec
-    shared-slice-read-gates
-    cast-gates
-    shared-slice-read-outputs
-    cast-outputs
-    mul-result
+    (λ c. search needs)  -- shared-slice-read-gates
+    (λ c. search needs)  -- cast-gates
+    (λ c. search needs)  -- shared-slice-read-outputs
+    (λ c. search needs)  -- cast-outputs
+    (λ c. search needs)  -- mul-result
     add-result
-    mul-result-2
+    (λ c. search needs)  -- mul-result-2
     add-result-2
     returns)

@@ -26,9 +26,6 @@ sized c = sized-of _ (head (c .before .before .before)) (lines c)
 starts : (c : tie.Else4) → startsOk (c .before .before .before .before .before .before .before .before .before .before .args .t .now) ≡ true
 starts c = sym (c .before .before .before .before .walk-starts .ensures .1) ∙ not-false _ (c .if4 .left)
 
-is-partial-requires : tie.Need-is-partial-requires
-is-partial-requires c κs = search needs
-
 returns : tie.Need-returns
 returns c = refusal-partial _ (sym (c .before .is-partial .ensures) ∙ c .if1 .taken)
 
@@ -87,7 +84,7 @@ pub refusal-spec : {M : Type 1} → statement M
 refusal-spec =
     tie.close
     (tie.spec
-    is-partial-requires
+    (λ c κs. search needs)  -- is-partial-requires
     returns
     head-in-limits-requires
     returns-2

@@ -15,28 +15,10 @@ Inv-loop t p q₀ q = (q ≤ length t + 3) × (q + 3 * startRun (drop q t) ≡ p
 abbrev μ-loop : tie.MeasureT-loop
 μ-loop t p q₀ q = length t + 3 - q
 
-loop-holds : tie.Need-loop-holds Inv-loop μ-loop
-loop-holds c = search needs
-
-add-loop : tie.Need-add-loop Inv-loop μ-loop
-add-loop c = search needs
-
-mul-if1 : tie.Need-mul-if1 Inv-loop μ-loop
-mul-if1 c = search needs
-
-shared-slice-read-if1 : tie.Need-shared-slice-read-if1 Inv-loop μ-loop
-shared-slice-read-if1 c = search needs
-
 returns : tie.Need-returns Inv-loop μ-loop
 returns c =
     let l = c .before .before .before .loop in
     omega (arith, l .inv .1, run-stop (c .before .before .before .before .args .t .now) (l .q) (c .before .before .loop-test .taken) (c .if1 .taken))
-
-add-q : tie.Need-add-q Inv-loop μ-loop
-add-q c = search needs
-
-loop-less : tie.Need-loop-less Inv-loop μ-loop
-loop-less c = search needs
 
 loop-again : tie.Need-loop-again Inv-loop μ-loop
 loop-again c =
@@ -54,12 +36,12 @@ run-end-spec =
     (tie.spec
     Inv-loop
     μ-loop
-    loop-holds
-    add-loop
-    mul-if1
-    shared-slice-read-if1
+    (λ c. search needs)  -- loop-holds
+    (λ c. search needs)  -- add-loop
+    (λ c. search needs)  -- mul-if1
+    (λ c. search needs)  -- shared-slice-read-if1
     returns
-    add-q
-    loop-less
+    (λ c. search needs)  -- add-q
+    (λ c. search needs)  -- loop-less
     loop-again
     returns-2)

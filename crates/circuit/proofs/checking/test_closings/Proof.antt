@@ -17,21 +17,6 @@ loop-holds c =
     let s = c .before .args in
     (search needs, tests-none isClosing 0 (s .q) (s .n) (s .t .now) (s .earlier .kinds), tests-none (referenceBelow (s .top)) 0 (s .q) (s .n) (s .t .now) (s .earlier .references))
 
-mul-test-closing : tie.Need-mul-test-closing Inv-loop μ-loop
-mul-test-closing c = search needs
-
-add-test-closing : tie.Need-add-test-closing Inv-loop μ-loop
-add-test-closing c = search needs
-
-test-closing-requires : tie.Need-test-closing-requires Inv-loop μ-loop
-test-closing-requires c κs = search needs
-
-add-i : tie.Need-add-i Inv-loop μ-loop
-add-i c = search needs
-
-loop-less : tie.Need-loop-less Inv-loop μ-loop
-loop-less c = search needs
-
 loop-again : tie.Need-loop-again Inv-loop μ-loop
 loop-again c =
     let s = c .before .before .before .before .args in
@@ -59,10 +44,10 @@ test-closings-spec =
     Inv-loop
     μ-loop
     loop-holds
-    mul-test-closing
-    add-test-closing
-    test-closing-requires
-    add-i
-    loop-less
+    (λ c. search needs)  -- mul-test-closing
+    (λ c. search needs)  -- add-test-closing
+    (λ c κs. search needs)  -- test-closing-requires
+    (λ c. search needs)  -- add-i
+    (λ c. search needs)  -- loop-less
     loop-again
     returns)

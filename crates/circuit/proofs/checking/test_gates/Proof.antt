@@ -17,27 +17,6 @@ loop-holds c =
     let s = c .before .args in
     (search needs, tests-none hasGateKind (s .first) (s .q) (s .n) (s .t .now) (s .earlier .kinds), tests-none operandsBelow (s .first) (s .q) (s .n) (s .t .now) (s .earlier .references))
 
-mul-test-gate : tie.Need-mul-test-gate Inv-loop μ-loop
-mul-test-gate c = search needs
-
-add-test-gate : tie.Need-add-test-gate Inv-loop μ-loop
-add-test-gate c = search needs
-
-cast-test-gate : tie.Need-cast-test-gate Inv-loop μ-loop
-cast-test-gate c = search needs
-
-add-test-gate-2 : tie.Need-add-test-gate-2 Inv-loop μ-loop
-add-test-gate-2 c = search needs
-
-test-gate-requires : tie.Need-test-gate-requires Inv-loop μ-loop
-test-gate-requires c κs = search needs
-
-add-i : tie.Need-add-i Inv-loop μ-loop
-add-i c = search needs
-
-loop-less : tie.Need-loop-less Inv-loop μ-loop
-loop-less c = search needs
-
 loop-again : tie.Need-loop-again Inv-loop μ-loop
 loop-again c =
     let s = c .before .before .before .before .args in
@@ -65,12 +44,12 @@ test-gates-spec =
     Inv-loop
     μ-loop
     loop-holds
-    mul-test-gate
-    add-test-gate
-    cast-test-gate
-    add-test-gate-2
-    test-gate-requires
-    add-i
-    loop-less
+    (λ c. search needs)  -- mul-test-gate
+    (λ c. search needs)  -- add-test-gate
+    (λ c. search needs)  -- cast-test-gate
+    (λ c. search needs)  -- add-test-gate-2
+    (λ c κs. search needs)  -- test-gate-requires
+    (λ c. search needs)  -- add-i
+    (λ c. search needs)  -- loop-less
     loop-again
     returns)

@@ -10,36 +10,6 @@ use Rattle.circuit.specs.Refusal.{hasGateKind, operandsBelow, isClosing,
 use Rattle.circuit.proofs.checking.test_lines.Statement.{statement}
 use Rattle.circuit.proofs.checking.test_lines.Tie as tie
 
-shared-slice-read-gates : tie.Need-shared-slice-read-gates
-shared-slice-read-gates c = search needs
-
-shared-slice-read-outputs : tie.Need-shared-slice-read-outputs
-shared-slice-read-outputs c = search needs
-
-cast-outputs : tie.Need-cast-outputs
-cast-outputs c = search needs
-
-first-gate-requires : tie.Need-first-gate-requires
-first-gate-requires c κs = search needs
-
-gates-from-requires : tie.Need-gates-from-requires
-gates-from-requires c κs = search needs
-
-cast-test-gates : tie.Need-cast-test-gates
-cast-test-gates c = search needs
-
-test-gates-requires : tie.Need-test-gates-requires
-test-gates-requires c κs = search needs
-
-closings-from-requires : tie.Need-closings-from-requires
-closings-from-requires c κs = search needs
-
-add-test-closings : tie.Need-add-test-closings
-add-test-closings c = search needs
-
-test-closings-requires : tie.Need-test-closings-requires
-test-closings-requires c κs = search needs
-
 returns : tie.Need-returns
 returns c =
     let t = c .before .before .before .before .before .before .before .before .args .t .now in
@@ -60,14 +30,14 @@ pub test-lines-spec : {M : Type 1} → statement M
 test-lines-spec =
     tie.close
     (tie.spec
-    shared-slice-read-gates
-    shared-slice-read-outputs
-    cast-outputs
-    first-gate-requires
-    gates-from-requires
-    cast-test-gates
-    test-gates-requires
-    closings-from-requires
-    add-test-closings
-    test-closings-requires
+    (λ c. search needs)  -- shared-slice-read-gates
+    (λ c. search needs)  -- shared-slice-read-outputs
+    (λ c. search needs)  -- cast-outputs
+    (λ c κs. search needs)  -- first-gate-requires
+    (λ c κs. search needs)  -- gates-from-requires
+    (λ c. search needs)  -- cast-test-gates
+    (λ c κs. search needs)  -- test-gates-requires
+    (λ c κs. search needs)  -- closings-from-requires
+    (λ c. search needs)  -- add-test-closings
+    (λ c κs. search needs)  -- test-closings-requires
     returns)

@@ -24,24 +24,6 @@ abbrev μ-loop : tie.MeasureT-loop
 found : (t : List ℕ) (top : ℕ) → top ≡ firstGate (inputs t) → (right : Bool) → right ≡ startsAscend top constants (decode t .starts) → right ≡ startsOk t
 found t top e right q = q ∙ ap (λ k. startsAscend k constants (decode t .starts)) e
 
-first-gate-requires : tie.Need-first-gate-requires Inv-loop μ-loop
-first-gate-requires c κs = search needs
-
-sub-before : tie.Need-sub-before Inv-loop μ-loop
-sub-before c = search needs
-
-loop-holds : tie.Need-loop-holds Inv-loop μ-loop
-loop-holds c = search needs
-
-add-loop : tie.Need-add-loop Inv-loop μ-loop
-add-loop c = search needs
-
-mul-if1 : tie.Need-mul-if1 Inv-loop μ-loop
-mul-if1 c = search needs
-
-shared-slice-read-if1 : tie.Need-shared-slice-read-if1 Inv-loop μ-loop
-shared-slice-read-if1 c = search needs
-
 returns : tie.Need-returns Inv-loop μ-loop
 returns c =
     let s = c .before .before .before .before .before .before in
@@ -49,42 +31,12 @@ returns c =
     let all = walked-all (s .args .t .now) _ (l .loop .before) (l .loop .p) (l .loop .inv .1) (run-stop _ (l .loop .p) (c .before .before .loop-test .taken) (c .if1 .taken)) in
     (all .0, found (s .args .t .now) _ (l .before .first-gate .ensures) _ (all .1))
 
-add-input : tie.Need-add-input Inv-loop μ-loop
-add-input c = search needs
-
-mul-input : tie.Need-mul-input Inv-loop μ-loop
-mul-input c = search needs
-
-shared-slice-read-input : tie.Need-shared-slice-read-input Inv-loop μ-loop
-shared-slice-read-input c = search needs
-
-add-is-start : tie.Need-add-is-start Inv-loop μ-loop
-add-is-start c = search needs
-
-mul-is-start : tie.Need-mul-is-start Inv-loop μ-loop
-mul-is-start c = search needs
-
-shared-slice-read-is-start : tie.Need-shared-slice-read-is-start Inv-loop μ-loop
-shared-slice-read-is-start c = search needs
-
-is-start-requires : tie.Need-is-start-requires Inv-loop μ-loop
-is-start-requires c κs = search needs
-
-run-end-requires : tie.Need-run-end-requires Inv-loop μ-loop
-run-end-requires c κs = search needs
-
 returns-2 : tie.Need-returns-2 Inv-loop μ-loop
 returns-2 c =
     let s = c .before .before .before .before .before .before .before .before .before .before .before in
     let l = c .before .before .before .before .before .before .before .before in
     let wrong = walked-wrong (s .args .t .now) _ (l .loop .before) (l .loop .p) (l .loop .inv .1) (c .before .before .before .before .before .before .before .loop-test .taken) (c .before .before .before .before .before .if1 .left) (sym (c .before .before .is-start .ensures) ∙ not-true _ (c .before .if2 .taken)) in
     (c .run-end .ensures ∙ l .loop .inv .1 .0, found (s .args .t .now) _ (l .before .first-gate .ensures) _ wrong)
-
-add-p : tie.Need-add-p Inv-loop μ-loop
-add-p c = search needs
-
-loop-less : tie.Need-loop-less Inv-loop μ-loop
-loop-less c = search needs
 
 loop-again : tie.Need-loop-again Inv-loop μ-loop
 loop-again c =
@@ -107,23 +59,23 @@ walk-starts-spec =
     (tie.spec
     Inv-loop
     μ-loop
-    first-gate-requires
-    sub-before
-    loop-holds
-    add-loop
-    mul-if1
-    shared-slice-read-if1
+    (λ c κs. search needs)  -- first-gate-requires
+    (λ c. search needs)  -- sub-before
+    (λ c. search needs)  -- loop-holds
+    (λ c. search needs)  -- add-loop
+    (λ c. search needs)  -- mul-if1
+    (λ c. search needs)  -- shared-slice-read-if1
     returns
-    add-input
-    mul-input
-    shared-slice-read-input
-    add-is-start
-    mul-is-start
-    shared-slice-read-is-start
-    is-start-requires
-    run-end-requires
+    (λ c. search needs)  -- add-input
+    (λ c. search needs)  -- mul-input
+    (λ c. search needs)  -- shared-slice-read-input
+    (λ c. search needs)  -- add-is-start
+    (λ c. search needs)  -- mul-is-start
+    (λ c. search needs)  -- shared-slice-read-is-start
+    (λ c κs. search needs)  -- is-start-requires
+    (λ c κs. search needs)  -- run-end-requires
     returns-2
-    add-p
-    loop-less
+    (λ c. search needs)  -- add-p
+    (λ c. search needs)  -- loop-less
     loop-again
     returns-3)

@@ -25,15 +25,6 @@ returns c =
     let s = c .before in
     (sym (first-false 1 0 (critical-dead (isCounted (s .args .kind)) (eqb (s .args .depth + (s .args .reverse - 1)) (s .args .deepest)) (s .args .reverse) (c .if1 .taken))), omega arith)
 
-is-counted-requires : tie.Need-is-counted-requires
-is-counted-requires c κs = search needs
-
-sub-if2 : tie.Need-sub-if2
-sub-if2 c = search needs
-
-add-if2 : tie.Need-add-if2
-add-if2 c = search needs
-
 returns-2 : tie.Need-returns-2
 returns-2 c = (sym (first-true 1 0 (tested (c .before) ∙ c .if2 .taken)), omega arith)
 
@@ -42,4 +33,11 @@ returns-3 c = (sym (first-false 1 0 (tested (c .before) ∙ c .if2 .left)), omeg
 
 pub critical-here-spec : {M : Type 1} → statement M
 critical-here-spec =
-    tie.close (tie.spec returns is-counted-requires sub-if2 add-if2 returns-2 returns-3)
+    tie.close
+    (tie.spec
+    returns
+    (λ c κs. search needs)  -- is-counted-requires
+    (λ c. search needs)  -- sub-if2
+    (λ c. search needs)  -- add-if2
+    returns-2
+    returns-3)

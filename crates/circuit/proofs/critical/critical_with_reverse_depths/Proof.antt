@@ -15,52 +15,10 @@ Inv-loop t d deepest u₀ from first count₀ i₀ u count i = (i ≤ gates t) �
 abbrev μ-loop : tie.MeasureT-loop
 μ-loop t d deepest u₀ from first count₀ i₀ u count i = i
 
-mark-outputs-requires : tie.Need-mark-outputs-requires Inv-loop μ-loop
-mark-outputs-requires c κs = search needs
-
-gates-from-requires : tie.Need-gates-from-requires Inv-loop μ-loop
-gates-from-requires c κs = search needs
-
-first-gate-requires : tie.Need-first-gate-requires Inv-loop μ-loop
-first-gate-requires c κs = search needs
-
-cast-first : tie.Need-cast-first Inv-loop μ-loop
-cast-first c = search needs
-
-shared-slice-read-i : tie.Need-shared-slice-read-i Inv-loop μ-loop
-shared-slice-read-i c = search needs
-
-cast-i : tie.Need-cast-i Inv-loop μ-loop
-cast-i c = search needs
-
 loop-holds : tie.Need-loop-holds Inv-loop μ-loop
 loop-holds c =
     let s = c .before .before .before .before .before .before .before .before .before .before in
     (search needs, raised-none (s .args .t .now) (s .args .u .now) _ (c .before .before .before .before .before .mark-outputs .ensures), counted-none (s .args .t .now))
-
-sub-i : tie.Need-sub-i Inv-loop μ-loop
-sub-i c = search needs
-
-gate-line-requires : tie.Need-gate-line-requires Inv-loop μ-loop
-gate-line-requires c κs = search needs
-
-add-critical-here : tie.Need-add-critical-here Inv-loop μ-loop
-add-critical-here c = search needs
-
-mul-critical-here : tie.Need-mul-critical-here Inv-loop μ-loop
-mul-critical-here c = search needs
-
-shared-slice-read-critical-here : tie.Need-shared-slice-read-critical-here Inv-loop μ-loop
-shared-slice-read-critical-here c = search needs
-
-add-critical-here-2 : tie.Need-add-critical-here-2 Inv-loop μ-loop
-add-critical-here-2 c = search needs
-
-mul-critical-here-2 : tie.Need-mul-critical-here-2 Inv-loop μ-loop
-mul-critical-here-2 c = search needs
-
-slice-read-critical-here : tie.Need-slice-read-critical-here Inv-loop μ-loop
-slice-read-critical-here c = search needs
 
 critical-here-requires : tie.Need-critical-here-requires Inv-loop μ-loop
 critical-here-requires c κs =
@@ -78,18 +36,12 @@ add-count c =
     let s = c .before .before .before .before .before .before .before .before .before .before .before .before .before .before .before .before in
     omega (arith, count-limit (s .args .t .now) (l .count) (l .i) (l .inv .2) (s .pre .0), c .critical-here .ensures .1)
 
-add-raise-operands : tie.Need-add-raise-operands Inv-loop μ-loop
-add-raise-operands c = search needs
-
 raise-operands-requires : tie.Need-raise-operands-requires Inv-loop μ-loop
 raise-operands-requires c κs =
     let l = c .before .before .before .before .before .before .loop in
     let s = c .before .before .before .before .before .before .before .before .before .before .before .before .before .before .before .before .before in
     let t = s .args .t .now in
     (search needs, (search needs, raised-limit t _ (l .u) (s .pre .0) (l .i) (l .inv .1) (c .before .before .before .before .before .before .before .before .first-gate .result + (l .i - 1)) (search needs)))
-
-loop-less : tie.Need-loop-less Inv-loop μ-loop
-loop-less c = search needs
 
 loop-again : tie.Need-loop-again Inv-loop μ-loop
 loop-again c =
@@ -103,9 +55,6 @@ loop-again c =
       counted-more t (l .count) (l .i) (l .inv .2) (s .args .d .now) (s .pre .0) (s .pre .1 .1 .1 .0) (l .i - 1) (search needs) _ n _ (l .u) (l .inv .1) (search needs)
           (g .result) (g .ensures .0) (s .args .deepest) (s .pre .1 .1 .1 .1) _ (c .before .before .before .before .critical-here .ensures .0),
     )
-
-same-length : tie.Need-same-length Inv-loop μ-loop
-same-length c = search needs
 
 returns : tie.Need-returns Inv-loop μ-loop
 returns c =
@@ -121,26 +70,26 @@ critical-with-reverse-depths-spec =
     (tie.spec
     Inv-loop
     μ-loop
-    mark-outputs-requires
-    gates-from-requires
-    first-gate-requires
-    cast-first
-    shared-slice-read-i
-    cast-i
+    (λ c κs. search needs)  -- mark-outputs-requires
+    (λ c κs. search needs)  -- gates-from-requires
+    (λ c κs. search needs)  -- first-gate-requires
+    (λ c. search needs)  -- cast-first
+    (λ c. search needs)  -- shared-slice-read-i
+    (λ c. search needs)  -- cast-i
     loop-holds
-    sub-i
-    gate-line-requires
-    add-critical-here
-    mul-critical-here
-    shared-slice-read-critical-here
-    add-critical-here-2
-    mul-critical-here-2
-    slice-read-critical-here
+    (λ c. search needs)  -- sub-i
+    (λ c κs. search needs)  -- gate-line-requires
+    (λ c. search needs)  -- add-critical-here
+    (λ c. search needs)  -- mul-critical-here
+    (λ c. search needs)  -- shared-slice-read-critical-here
+    (λ c. search needs)  -- add-critical-here-2
+    (λ c. search needs)  -- mul-critical-here-2
+    (λ c. search needs)  -- slice-read-critical-here
     critical-here-requires
     add-count
-    add-raise-operands
+    (λ c. search needs)  -- add-raise-operands
     raise-operands-requires
-    loop-less
+    (λ c. search needs)  -- loop-less
     loop-again
-    same-length
+    (λ c. search needs)  -- same-length
     returns)

@@ -5,9 +5,6 @@ use borrow.Author.Needs.{needs}
 use Rattle.circuit.proofs.critical.pair_with_reverse_depths.Statement.{statement}
 use Rattle.circuit.proofs.critical.pair_with_reverse_depths.Tie as tie
 
-depths-requires : tie.Need-depths-requires
-depths-requires c κs = search needs
-
 output-depth-requires : tie.Need-output-depth-requires
 output-depth-requires c κs =
     let s = c .before .before .before .before .before .before .before .before in
@@ -18,12 +15,6 @@ critical-with-reverse-depths-requires c κs =
     let s = c .before .before .before .before .before .before .before .before .before .before .before in
     (s .pre .0, (search needs, (search needs, (depths-front (s .args .t .now) _ _ (c .before .before .before .before .before .before .depths .ensures), c .before .before .output-depth .ensures))))
 
-same-length : tie.Need-same-length
-same-length c = search needs
-
-same-length-2 : tie.Need-same-length-2
-same-length-2 c = search needs
-
 returns : tie.Need-returns
 returns c =
     let counted = c .before .before .critical-with-reverse-depths .ensures in
@@ -33,9 +24,9 @@ pub pair-with-reverse-depths-spec : {M : Type 1} → statement M
 pair-with-reverse-depths-spec =
     tie.close
     (tie.spec
-    depths-requires
+    (λ c κs. search needs)  -- depths-requires
     output-depth-requires
     critical-with-reverse-depths-requires
-    same-length
-    same-length-2
+    (λ c. search needs)  -- same-length
+    (λ c. search needs)  -- same-length-2
     returns)

@@ -5,14 +5,13 @@ use Rattle.circuit.specs.Depth.{plusAnd}
 use Rattle.circuit.proofs.depth.gate_depth.Statement.{statement}
 use Rattle.circuit.proofs.depth.gate_depth.Tie as tie
 
-larger-requires : tie.Need-larger-requires
-larger-requires c κs = search needs
-
-plus-and-requires : tie.Need-plus-and-requires
-plus-and-requires c κs = search needs
-
 returns : tie.Need-returns
 returns c = c .plus-and .ensures ∙ ap (plusAnd (c .before .before .args .kind)) (c .before .larger .ensures)
 
 pub gate-depth-spec : {M : Type 1} → statement M
-gate-depth-spec = tie.close (tie.spec larger-requires plus-and-requires returns)
+gate-depth-spec =
+    tie.close
+    (tie.spec
+    (λ c κs. search needs)  -- larger-requires
+    (λ c κs. search needs)  -- plus-and-requires
+    returns)

@@ -17,35 +17,8 @@ Inv-loop t d from outputs deepest₀ i₀ deepest i = (i ≤ outputs) × (max de
 abbrev μ-loop : tie.MeasureT-loop
 μ-loop t d from outputs deepest₀ i₀ deepest i = outputs - i
 
-closings-from-requires : tie.Need-closings-from-requires Inv-loop μ-loop
-closings-from-requires c κs = search needs
-
-shared-slice-read-outputs : tie.Need-shared-slice-read-outputs Inv-loop μ-loop
-shared-slice-read-outputs c = search needs
-
-cast-outputs : tie.Need-cast-outputs Inv-loop μ-loop
-cast-outputs c = search needs
-
 loop-holds : tie.Need-loop-holds Inv-loop μ-loop
 loop-holds c = (search needs, largest-none (depth (decode (c .before .before .before .before .args .t .now))) (decode (c .before .before .before .before .args .t .now) .outputs))
-
-output-reference-requires : tie.Need-output-reference-requires Inv-loop μ-loop
-output-reference-requires c κs = search needs
-
-mul-larger : tie.Need-mul-larger Inv-loop μ-loop
-mul-larger c = search needs
-
-shared-slice-read-larger : tie.Need-shared-slice-read-larger Inv-loop μ-loop
-shared-slice-read-larger c = search needs
-
-larger-requires : tie.Need-larger-requires Inv-loop μ-loop
-larger-requires c κs = search needs
-
-add-i : tie.Need-add-i Inv-loop μ-loop
-add-i c = search needs
-
-loop-less : tie.Need-loop-less Inv-loop μ-loop
-loop-less c = search needs
 
 loop-again : tie.Need-loop-again Inv-loop μ-loop
 loop-again c =
@@ -67,15 +40,15 @@ output-depth-spec =
     (tie.spec
     Inv-loop
     μ-loop
-    closings-from-requires
-    shared-slice-read-outputs
-    cast-outputs
+    (λ c κs. search needs)  -- closings-from-requires
+    (λ c. search needs)  -- shared-slice-read-outputs
+    (λ c. search needs)  -- cast-outputs
     loop-holds
-    output-reference-requires
-    mul-larger
-    shared-slice-read-larger
-    larger-requires
-    add-i
-    loop-less
+    (λ c κs. search needs)  -- output-reference-requires
+    (λ c. search needs)  -- mul-larger
+    (λ c. search needs)  -- shared-slice-read-larger
+    (λ c κs. search needs)  -- larger-requires
+    (λ c. search needs)  -- add-i
+    (λ c. search needs)  -- loop-less
     loop-again
     returns)

@@ -5,12 +5,6 @@ use borrow.Author.Needs.{needs}
 use Rattle.circuit.proofs.depth.plus_and.Statement.{statement}
 use Rattle.circuit.proofs.depth.plus_and.Tie as tie
 
-is-counted-requires : tie.Need-is-counted-requires
-is-counted-requires c κs = search needs
-
-add-result : tie.Need-add-result
-add-result c = search needs
-
 returns : tie.Need-returns
 returns c = sym (first-true _ _ (sym (c .before .is-counted .ensures) ∙ c .if1 .taken))
 
@@ -18,4 +12,10 @@ returns-2 : tie.Need-returns-2
 returns-2 c = sym (first-false _ _ (sym (c .before .is-counted .ensures) ∙ c .if1 .left))
 
 pub plus-and-spec : {M : Type 1} → statement M
-plus-and-spec = tie.close (tie.spec is-counted-requires add-result returns returns-2)
+plus-and-spec =
+    tie.close
+    (tie.spec
+    (λ c κs. search needs)  -- is-counted-requires
+    (λ c. search needs)  -- add-result
+    returns
+    returns-2)

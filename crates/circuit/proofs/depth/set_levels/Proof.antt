@@ -32,41 +32,8 @@ place c =
     let r = line-right (s .args .t .now) (s .args .d .now) (l .d) (s .pre .0) (l .i) (l .inv .2) (here c) .below in
     (omega (arith, r, s .pre .1, l .inv .1), omega (arith, r, s .pre .0 .sized .inputs-limit), l .inv .1)
 
-gates-from-requires : tie.Need-gates-from-requires Inv-loop μ-loop
-gates-from-requires c κs = search needs
-
-sub-starts : tie.Need-sub-starts Inv-loop μ-loop
-sub-starts c = search needs
-
-loop-holds : tie.Need-loop-holds Inv-loop μ-loop
-loop-holds c = search needs
-
-mul-p : tie.Need-mul-p Inv-loop μ-loop
-mul-p c = search needs
-
-add-p : tie.Need-add-p Inv-loop μ-loop
-add-p c = search needs
-
-add-input : tie.Need-add-input Inv-loop μ-loop
-add-input c = search needs
-
-mul-input : tie.Need-mul-input Inv-loop μ-loop
-mul-input c = search needs
-
-shared-slice-read-input : tie.Need-shared-slice-read-input Inv-loop μ-loop
-shared-slice-read-input c = search needs
-
 cast-input : tie.Need-cast-input Inv-loop μ-loop
 cast-input c = omega (arith, place (c .before))
-
-add-d : tie.Need-add-d Inv-loop μ-loop
-add-d c = search needs
-
-mul-d : tie.Need-mul-d Inv-loop μ-loop
-mul-d c = search needs
-
-shared-slice-read-d : tie.Need-shared-slice-read-d Inv-loop μ-loop
-shared-slice-read-d c = search needs
 
 mul-d-2 : tie.Need-mul-d-2 Inv-loop μ-loop
 mul-d-2 c = omega (arith, place (c .before .before))
@@ -74,20 +41,11 @@ mul-d-2 c = omega (arith, place (c .before .before))
 slice-write-d : tie.Need-slice-write-d Inv-loop μ-loop
 slice-write-d c = omega (arith, place (c .before .before))
 
-add-i : tie.Need-add-i Inv-loop μ-loop
-add-i c = search needs
-
-loop-less : tie.Need-loop-less Inv-loop μ-loop
-loop-less c = search needs
-
 loop-again : tie.Need-loop-again Inv-loop μ-loop
 loop-again c =
     let l = c .before .before .before .loop in
     let s = c .before .before .before .before .before .before .before in
     (search needs, search needs, levels-more (s .args .t .now) (s .args .d .now) (l .d) (s .pre .0) (l .i) (l .inv .2) (here (c .before .before)))
-
-same-length : tie.Need-same-length Inv-loop μ-loop
-same-length c = search needs
 
 returns : tie.Need-returns Inv-loop μ-loop
 returns c =
@@ -101,22 +59,22 @@ set-levels-spec =
     (tie.spec
     Inv-loop
     μ-loop
-    gates-from-requires
-    sub-starts
-    loop-holds
-    mul-p
-    add-p
-    add-input
-    mul-input
-    shared-slice-read-input
+    (λ c κs. search needs)  -- gates-from-requires
+    (λ c. search needs)  -- sub-starts
+    (λ c. search needs)  -- loop-holds
+    (λ c. search needs)  -- mul-p
+    (λ c. search needs)  -- add-p
+    (λ c. search needs)  -- add-input
+    (λ c. search needs)  -- mul-input
+    (λ c. search needs)  -- shared-slice-read-input
     cast-input
-    add-d
-    mul-d
-    shared-slice-read-d
+    (λ c. search needs)  -- add-d
+    (λ c. search needs)  -- mul-d
+    (λ c. search needs)  -- shared-slice-read-d
     mul-d-2
     slice-write-d
-    add-i
-    loop-less
+    (λ c. search needs)  -- add-i
+    (λ c. search needs)  -- loop-less
     loop-again
-    same-length
+    (λ c. search needs)  -- same-length
     returns)

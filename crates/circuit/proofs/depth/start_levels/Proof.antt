@@ -7,21 +7,6 @@ use borrow.Author.Needs.{needs}
 use Rattle.circuit.proofs.depth.start_levels.Statement.{statement}
 use Rattle.circuit.proofs.depth.start_levels.Tie as tie
 
-first-gate-requires : tie.Need-first-gate-requires
-first-gate-requires c κs = search needs
-
-cast-clear : tie.Need-cast-clear
-cast-clear c = search needs
-
-clear-requires : tie.Need-clear-requires
-clear-requires c κs = search needs
-
-set-levels-requires : tie.Need-set-levels-requires
-set-levels-requires c κs = search needs
-
-same-length : tie.Need-same-length
-same-length c = search needs
-
 returns : tie.Need-returns
 returns c =
     let s = c .before .before .before .before .before .before .before .before .before .before .before in
@@ -32,9 +17,9 @@ pub start-levels-spec : {M : Type 1} → statement M
 start-levels-spec =
     tie.close
     (tie.spec
-    first-gate-requires
-    cast-clear
-    clear-requires
-    set-levels-requires
-    same-length
+    (λ c κs. search needs)  -- first-gate-requires
+    (λ c. search needs)  -- cast-clear
+    (λ c κs. search needs)  -- clear-requires
+    (λ c κs. search needs)  -- set-levels-requires
+    (λ c. search needs)  -- same-length
     returns)

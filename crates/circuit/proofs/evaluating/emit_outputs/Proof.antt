@@ -21,33 +21,6 @@ Inv-loop t bits out₀ from count i₀ out i = (i ≤ count) × Written (atOutpu
 abbrev μ-loop : tie.MeasureT-loop
 μ-loop t bits out₀ from count i₀ out i = count - i
 
-closings-from-requires : tie.Need-closings-from-requires Inv-loop μ-loop
-closings-from-requires c κs = search needs
-
-shared-slice-read-count : tie.Need-shared-slice-read-count Inv-loop μ-loop
-shared-slice-read-count c = search needs
-
-cast-count : tie.Need-cast-count Inv-loop μ-loop
-cast-count c = search needs
-
-loop-holds : tie.Need-loop-holds Inv-loop μ-loop
-loop-holds c = search needs
-
-output-reference-requires : tie.Need-output-reference-requires Inv-loop μ-loop
-output-reference-requires c κs = search needs
-
-shared-slice-read-out : tie.Need-shared-slice-read-out Inv-loop μ-loop
-shared-slice-read-out c = search needs
-
-slice-write-out : tie.Need-slice-write-out Inv-loop μ-loop
-slice-write-out c = search needs
-
-add-i : tie.Need-add-i Inv-loop μ-loop
-add-i c = search needs
-
-loop-less : tie.Need-loop-less Inv-loop μ-loop
-loop-less c = search needs
-
 loop-again : tie.Need-loop-again Inv-loop μ-loop
 loop-again c =
     let s = c .before .before .before .before .before .before .before .before .before in
@@ -60,9 +33,6 @@ loop-again c =
       written-more 0 (atOutputs 0 (decode t) (take (refs t) bits)) (s .args .out .now) (l .out) (l .i) _ (l .inv .1) (rw (length-map, outputs-length) h) (omega arith)
           (sym (map-step (λ v. getD (take (refs t) bits) v 0) (l .i) (decode t .outputs) _ _ 0 (output-next t (l .i) h) ∙ ap (λ v. getD (take (refs t) bits) v 0) (sym (o .ensures .0)) ∙ getD-take (refs t) bits (o .result) 0 (o .ensures .1))),
     )
-
-same-length : tie.Need-same-length Inv-loop μ-loop
-same-length c = search needs
 
 returns : tie.Need-returns Inv-loop μ-loop
 returns c =
@@ -80,15 +50,15 @@ emit-outputs-spec =
     (tie.spec
     Inv-loop
     μ-loop
-    closings-from-requires
-    shared-slice-read-count
-    cast-count
-    loop-holds
-    output-reference-requires
-    shared-slice-read-out
-    slice-write-out
-    add-i
-    loop-less
+    (λ c κs. search needs)  -- closings-from-requires
+    (λ c. search needs)  -- shared-slice-read-count
+    (λ c. search needs)  -- cast-count
+    (λ c. search needs)  -- loop-holds
+    (λ c κs. search needs)  -- output-reference-requires
+    (λ c. search needs)  -- shared-slice-read-out
+    (λ c. search needs)  -- slice-write-out
+    (λ c. search needs)  -- add-i
+    (λ c. search needs)  -- loop-less
     loop-again
-    same-length
+    (λ c. search needs)  -- same-length
     returns)

@@ -19,35 +19,14 @@ Inv-loop bytes bits₀ i₀ i-end bits i = (i ≤ length bytes) × Written (star
 abbrev μ-loop : tie.MeasureT-loop
 μ-loop bytes bits₀ i₀ i-end bits i = length bytes - i
 
-slice-write-bits : tie.Need-slice-write-bits Inv-loop μ-loop
-slice-write-bits c = search needs
-
 slice-write-bits-2 : tie.Need-slice-write-bits-2 Inv-loop μ-loop
 slice-write-bits-2 c = simp length-set (omega arith)
 
 loop-holds : tie.Need-loop-holds Inv-loop μ-loop
 loop-holds c = (search needs, constants-written (c .before .before .args .bytes .now) (c .before .before .args .bits .now) (omega arith))
 
-shared-slice-read-bit-of : tie.Need-shared-slice-read-bit-of Inv-loop μ-loop
-shared-slice-read-bit-of c = search needs
-
-bit-of-requires : tie.Need-bit-of-requires Inv-loop μ-loop
-bit-of-requires c κs = search needs
-
-cast-bits : tie.Need-cast-bits Inv-loop μ-loop
-cast-bits c = search needs
-
-add-bits : tie.Need-add-bits Inv-loop μ-loop
-add-bits c = search needs
-
 slice-write-bits-3 : tie.Need-slice-write-bits-3 Inv-loop μ-loop
 slice-write-bits-3 c = omega (arith, simp length-set at (c .before .before .before .loop .inv .1 .long))
-
-add-i : tie.Need-add-i Inv-loop μ-loop
-add-i c = search needs
-
-loop-less : tie.Need-loop-less Inv-loop μ-loop
-loop-less c = search needs
 
 loop-again : tie.Need-loop-again Inv-loop μ-loop
 loop-again c =
@@ -79,16 +58,16 @@ load-inputs-spec =
     (tie.spec
     Inv-loop
     μ-loop
-    slice-write-bits
+    (λ c. search needs)  -- slice-write-bits
     slice-write-bits-2
     loop-holds
-    shared-slice-read-bit-of
-    bit-of-requires
-    cast-bits
-    add-bits
+    (λ c. search needs)  -- shared-slice-read-bit-of
+    (λ c κs. search needs)  -- bit-of-requires
+    (λ c. search needs)  -- cast-bits
+    (λ c. search needs)  -- add-bits
     slice-write-bits-3
-    add-i
-    loop-less
+    (λ c. search needs)  -- add-i
+    (λ c. search needs)  -- loop-less
     loop-again
     same-length
     returns)

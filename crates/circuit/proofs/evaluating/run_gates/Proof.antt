@@ -20,53 +20,8 @@ Inv-loop t bits₀ from first gates i₀ bits i = (i ≤ gates) × Filled (gateV
 abbrev μ-loop : tie.MeasureT-loop
 μ-loop t bits₀ from first gates i₀ bits i = gates - i
 
-gates-from-requires : tie.Need-gates-from-requires Inv-loop μ-loop
-gates-from-requires c κs = search needs
-
-first-gate-requires : tie.Need-first-gate-requires Inv-loop μ-loop
-first-gate-requires c κs = search needs
-
-cast-first : tie.Need-cast-first Inv-loop μ-loop
-cast-first c = search needs
-
-shared-slice-read-gates : tie.Need-shared-slice-read-gates Inv-loop μ-loop
-shared-slice-read-gates c = search needs
-
-cast-gates : tie.Need-cast-gates Inv-loop μ-loop
-cast-gates c = search needs
-
 loop-holds : tie.Need-loop-holds Inv-loop μ-loop
 loop-holds c = (search needs, filled-none _ _ _ _ _ _ refl refl)
-
-gate-line-requires : tie.Need-gate-line-requires Inv-loop μ-loop
-gate-line-requires c κs = search needs
-
-cast-left : tie.Need-cast-left Inv-loop μ-loop
-cast-left c = search needs
-
-cast-right : tie.Need-cast-right Inv-loop μ-loop
-cast-right c = search needs
-
-slice-read-gate-bit : tie.Need-slice-read-gate-bit Inv-loop μ-loop
-slice-read-gate-bit c = search needs
-
-slice-read-gate-bit-2 : tie.Need-slice-read-gate-bit-2 Inv-loop μ-loop
-slice-read-gate-bit-2 c = search needs
-
-gate-bit-requires : tie.Need-gate-bit-requires Inv-loop μ-loop
-gate-bit-requires c κs = search needs
-
-add-bits : tie.Need-add-bits Inv-loop μ-loop
-add-bits c = search needs
-
-slice-write-bits : tie.Need-slice-write-bits Inv-loop μ-loop
-slice-write-bits c = search needs
-
-add-i : tie.Need-add-i Inv-loop μ-loop
-add-i c = search needs
-
-loop-less : tie.Need-loop-less Inv-loop μ-loop
-loop-less c = search needs
 
 loop-again : tie.Need-loop-again Inv-loop μ-loop
 loop-again c =
@@ -79,9 +34,6 @@ loop-again c =
       filled-more (gateValue bitOp 0) (gateLines t) _ m _ (l .bits) (l .i) _ _ (l .inv .1) (gate-next t (l .i) (c .before .before .before .before .before .before .loop-test .taken)) (omega arith)
           (c .gate-bit .ensures ∙ value-read bitOp 0 (g .result) (m + l .i) (l .bits) (omega (arith, c .before .before .before .before .before .before .before .before .before .first-gate .ensures, g .ensures .1 .0)) (omega (arith, c .before .before .before .before .before .before .before .before .before .first-gate .ensures, g .ensures .1 .1)) ∙ ap (λ x. gateValue bitOp 0 x (take (m + l .i) (l .bits))) (g .ensures .0)),
     )
-
-same-length : tie.Need-same-length Inv-loop μ-loop
-same-length c = search needs
 
 returns : tie.Need-returns Inv-loop μ-loop
 returns c =
@@ -99,22 +51,22 @@ run-gates-spec =
     (tie.spec
     Inv-loop
     μ-loop
-    gates-from-requires
-    first-gate-requires
-    cast-first
-    shared-slice-read-gates
-    cast-gates
+    (λ c κs. search needs)  -- gates-from-requires
+    (λ c κs. search needs)  -- first-gate-requires
+    (λ c. search needs)  -- cast-first
+    (λ c. search needs)  -- shared-slice-read-gates
+    (λ c. search needs)  -- cast-gates
     loop-holds
-    gate-line-requires
-    cast-left
-    cast-right
-    slice-read-gate-bit
-    slice-read-gate-bit-2
-    gate-bit-requires
-    add-bits
-    slice-write-bits
-    add-i
-    loop-less
+    (λ c κs. search needs)  -- gate-line-requires
+    (λ c. search needs)  -- cast-left
+    (λ c. search needs)  -- cast-right
+    (λ c. search needs)  -- slice-read-gate-bit
+    (λ c. search needs)  -- slice-read-gate-bit-2
+    (λ c κs. search needs)  -- gate-bit-requires
+    (λ c. search needs)  -- add-bits
+    (λ c. search needs)  -- slice-write-bits
+    (λ c. search needs)  -- add-i
+    (λ c. search needs)  -- loop-less
     loop-again
-    same-length
+    (λ c. search needs)  -- same-length
     returns)

@@ -6,36 +6,6 @@ use borrow.Author.Needs.{needs}
 use Rattle.circuit.proofs.table.gate_line.Statement.{statement}
 use Rattle.circuit.proofs.table.gate_line.Tie as tie
 
-mul-p : tie.Need-mul-p
-mul-p c = search needs
-
-add-p : tie.Need-add-p
-add-p c = search needs
-
-mul-kind : tie.Need-mul-kind
-mul-kind c = search needs
-
-shared-slice-read-kind : tie.Need-shared-slice-read-kind
-shared-slice-read-kind c = search needs
-
-add-left : tie.Need-add-left
-add-left c = search needs
-
-mul-left : tie.Need-mul-left
-mul-left c = search needs
-
-shared-slice-read-left : tie.Need-shared-slice-read-left
-shared-slice-read-left c = search needs
-
-add-right : tie.Need-add-right
-add-right c = search needs
-
-mul-right : tie.Need-mul-right
-mul-right c = search needs
-
-shared-slice-read-right : tie.Need-shared-slice-read-right
-shared-slice-read-right c = search needs
-
 returns : tie.Need-returns
 returns c =
     let a = c .before .before .before in
@@ -48,14 +18,14 @@ pub gate-line-spec : {M : Type 1} → statement M
 gate-line-spec =
     tie.close
     (tie.spec
-    mul-p
-    add-p
-    mul-kind
-    shared-slice-read-kind
-    add-left
-    mul-left
-    shared-slice-read-left
-    add-right
-    mul-right
-    shared-slice-read-right
+    (λ c. search needs)  -- mul-p
+    (λ c. search needs)  -- add-p
+    (λ c. search needs)  -- mul-kind
+    (λ c. search needs)  -- shared-slice-read-kind
+    (λ c. search needs)  -- add-left
+    (λ c. search needs)  -- mul-left
+    (λ c. search needs)  -- shared-slice-read-left
+    (λ c. search needs)  -- add-right
+    (λ c. search needs)  -- mul-right
+    (λ c. search needs)  -- shared-slice-read-right
     returns)

@@ -10,21 +10,6 @@ use borrow.Author.Needs.{needs}
 use Rattle.circuit.proofs.table.output_reference.Statement.{statement}
 use Rattle.circuit.proofs.table.output_reference.Tie as tie
 
-mul-result : tie.Need-mul-result
-mul-result c = search needs
-
-add-result : tie.Need-add-result
-add-result c = search needs
-
-add-result-2 : tie.Need-add-result-2
-add-result-2 c = search needs
-
-mul-result-2 : tie.Need-mul-result-2
-mul-result-2 c = search needs
-
-shared-slice-read-result : tie.Need-shared-slice-read-result
-shared-slice-read-result c = search needs
-
 cast-result : tie.Need-cast-result
 cast-result c =
     let s = c .before in
@@ -43,10 +28,10 @@ pub output-reference-spec : {M : Type 1} → statement M
 output-reference-spec =
     tie.close
     (tie.spec
-    mul-result
-    add-result
-    add-result-2
-    mul-result-2
-    shared-slice-read-result
+    (λ c. search needs)  -- mul-result
+    (λ c. search needs)  -- add-result
+    (λ c. search needs)  -- add-result-2
+    (λ c. search needs)  -- mul-result-2
+    (λ c. search needs)  -- shared-slice-read-result
     cast-result
     returns)

@@ -14,35 +14,14 @@ Inv-loop t names₀ first v₀ names v = (v ≤ first) × (length names ≡ leng
 abbrev μ-loop : tie.MeasureT-loop
 μ-loop t names₀ first v₀ names v = first - v
 
-first-gate-requires : tie.Need-first-gate-requires Inv-loop μ-loop
-first-gate-requires c κs = search needs
-
 loop-holds : tie.Need-loop-holds Inv-loop μ-loop
 loop-holds c = (search needs, search needs, named-none (c .before .before .before .args .t .now) (c .before .before .before .args .names .now))
-
-cast-names : tie.Need-cast-names Inv-loop μ-loop
-cast-names c = search needs
-
-mul-names : tie.Need-mul-names Inv-loop μ-loop
-mul-names c = search needs
-
-slice-write-names : tie.Need-slice-write-names Inv-loop μ-loop
-slice-write-names c = search needs
-
-add-v : tie.Need-add-v Inv-loop μ-loop
-add-v c = search needs
-
-loop-less : tie.Need-loop-less Inv-loop μ-loop
-loop-less c = search needs
 
 loop-again : tie.Need-loop-again Inv-loop μ-loop
 loop-again c =
     let l = c .before .loop in
     let t = c .before .before .before .before .before .args .t .now in
     (search needs, search needs, named-more t (l .names) (l .v) (l .v) (l .inv .2) (search needs) (input-name t (l .v) (search needs)))
-
-same-length : tie.Need-same-length Inv-loop μ-loop
-same-length c = search needs
 
 returns : tie.Need-returns Inv-loop μ-loop
 returns c = λ v h. c .before .loop .inv .2 v (omega (arith, h, c .loop-test .left, c .before .before .first-gate .ensures))
@@ -53,13 +32,13 @@ name-inputs-spec =
     (tie.spec
     Inv-loop
     μ-loop
-    first-gate-requires
+    (λ c κs. search needs)  -- first-gate-requires
     loop-holds
-    cast-names
-    mul-names
-    slice-write-names
-    add-v
-    loop-less
+    (λ c. search needs)  -- cast-names
+    (λ c. search needs)  -- mul-names
+    (λ c. search needs)  -- slice-write-names
+    (λ c. search needs)  -- add-v
+    (λ c. search needs)  -- loop-less
     loop-again
-    same-length
+    (λ c. search needs)  -- same-length
     returns)

@@ -8,9 +8,6 @@ use borrow.Author.Needs.{needs}
 use Rattle.circuit.proofs.trimming.trim_by_reverse_depths.Statement.{statement}
 use Rattle.circuit.proofs.trimming.trim_by_reverse_depths.Tie as tie
 
-gates-from-requires : tie.Need-gates-from-requires
-gates-from-requires c κs = search needs
-
 slice-aggregate-copy-over : tie.Need-slice-aggregate-copy-over
 slice-aggregate-copy-over c =
     let s = c .before .before .before .before .before .before in
@@ -28,15 +25,6 @@ write-gates-requires c κs =
     let s = c .before .before .before .before .before .before .before .before .before .before .before .before in
     (s .pre .0, (s .pre .1 .0, (s .pre .1 .1 .0, (s .pre .1 .1 .1 .0, omega (arith, s .pre .1 .1 .1 .1, c .before .before .before .before .copy-over .kept .1 .0)))))
 
-cast-closings : tie.Need-cast-closings
-cast-closings c = search needs
-
-mul-closings : tie.Need-mul-closings
-mul-closings c = search needs
-
-add-closings : tie.Need-add-closings
-add-closings c = search needs
-
 write-closings-requires : tie.Need-write-closings-requires
 write-closings-requires c κs =
     let s = c .before .before .before .before .before .before .before .before .before .before .before .before .before .before .before .before .before .before .before in
@@ -44,21 +32,6 @@ write-closings-requires c κs =
     let w = c .before .before .before .before .before .before .write-gates in
     let room = closings-room (s .args .t .now) (from .result) (w .result) (from .ensures) (w .ensures .0) (length (s .args .out .now)) (s .pre .1 .1 .1 .1) in
     (s .pre .0, (search needs, (w .ensures .1 .0, omega (arith, room, w .kept .1 .1 .1 .0, c .before .before .before .before .before .before .before .before .before .before .before .copy-over .kept .1 .0))))
-
-shared-slice-read-write-row : tie.Need-shared-slice-read-write-row
-shared-slice-read-write-row c = search needs
-
-shared-slice-read-write-row-2 : tie.Need-shared-slice-read-write-row-2
-shared-slice-read-write-row-2 c = search needs
-
-write-row-requires : tie.Need-write-row-requires
-write-row-requires c κs = search needs
-
-same-length : tie.Need-same-length
-same-length c = search needs
-
-same-length-2 : tie.Need-same-length-2
-same-length-2 c = search needs
 
 returns : tie.Need-returns
 returns c =
@@ -76,17 +49,17 @@ pub trim-by-reverse-depths-spec : {M : Type 1} → statement M
 trim-by-reverse-depths-spec =
     tie.close
     (tie.spec
-    gates-from-requires
+    (λ c κs. search needs)  -- gates-from-requires
     slice-aggregate-copy-over
     copy-over-requires
     write-gates-requires
-    cast-closings
-    mul-closings
-    add-closings
+    (λ c. search needs)  -- cast-closings
+    (λ c. search needs)  -- mul-closings
+    (λ c. search needs)  -- add-closings
     write-closings-requires
-    shared-slice-read-write-row
-    shared-slice-read-write-row-2
-    write-row-requires
-    same-length
-    same-length-2
+    (λ c. search needs)  -- shared-slice-read-write-row
+    (λ c. search needs)  -- shared-slice-read-write-row-2
+    (λ c κs. search needs)  -- write-row-requires
+    (λ c. search needs)  -- same-length
+    (λ c. search needs)  -- same-length-2
     returns)

@@ -5,34 +5,19 @@ use borrow.Author.Needs.{needs}
 use Rattle.circuit.proofs.trimming.trim_in.Statement.{statement}
 use Rattle.circuit.proofs.trimming.trim_in.Tie as tie
 
-reverse-depths-requires : tie.Need-reverse-depths-requires
-reverse-depths-requires c κs = search needs
-
 trim-by-reverse-depths-requires : tie.Need-trim-by-reverse-depths-requires
 trim-by-reverse-depths-requires c κs =
     let s = c .before .before .before .before .before .before .before .before .before .before .before in
     let u = c .before .before .before .before .before .reverse-depths in
     (s .pre .0, (omega (arith, s .pre .1 .0, u .kept .1 .0), (reverse-front (s .args .t .now) _ _ (u .ensures), (s .pre .1 .1 .0, s .pre .1 .1 .1))))
 
-same-length : tie.Need-same-length
-same-length c = search needs
-
-same-length-2 : tie.Need-same-length-2
-same-length-2 c = search needs
-
-same-length-3 : tie.Need-same-length-3
-same-length-3 c = search needs
-
-returns : tie.Need-returns
-returns c = search needs
-
 pub trim-in-spec : {M : Type 1} → statement M
 trim-in-spec =
     tie.close
     (tie.spec
-    reverse-depths-requires
+    (λ c κs. search needs)  -- reverse-depths-requires
     trim-by-reverse-depths-requires
-    same-length
-    same-length-2
-    same-length-3
-    returns)
+    (λ c. search needs)  -- same-length
+    (λ c. search needs)  -- same-length-2
+    (λ c. search needs)  -- same-length-3
+    (λ c. search needs))  -- returns

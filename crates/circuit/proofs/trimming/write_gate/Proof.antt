@@ -4,33 +4,6 @@ use borrow.Author.Needs.{needs}
 use Rattle.circuit.proofs.trimming.write_gate.Statement.{statement}
 use Rattle.circuit.proofs.trimming.write_gate.Tie as tie
 
-gate-line-requires : tie.Need-gate-line-requires
-gate-line-requires c κs = search needs
-
-cast-write-row : tie.Need-cast-write-row
-cast-write-row c = search needs
-
-mul-write-row : tie.Need-mul-write-row
-mul-write-row c = search needs
-
-shared-slice-read-write-row : tie.Need-shared-slice-read-write-row
-shared-slice-read-write-row c = search needs
-
-cast-write-row-2 : tie.Need-cast-write-row-2
-cast-write-row-2 c = search needs
-
-mul-write-row-2 : tie.Need-mul-write-row-2
-mul-write-row-2 c = search needs
-
-shared-slice-read-write-row-2 : tie.Need-shared-slice-read-write-row-2
-shared-slice-read-write-row-2 c = search needs
-
-write-row-requires : tie.Need-write-row-requires
-write-row-requires c κs = search needs
-
-same-length : tie.Need-same-length
-same-length c = search needs
-
 returns : tie.Need-returns
 returns c =
     let s = c .before .before .before .before .before .before .before .before .before .before .before .before in
@@ -41,13 +14,13 @@ pub write-gate-spec : {M : Type 1} → statement M
 write-gate-spec =
     tie.close
     (tie.spec
-    gate-line-requires
-    cast-write-row
-    mul-write-row
-    shared-slice-read-write-row
-    cast-write-row-2
-    mul-write-row-2
-    shared-slice-read-write-row-2
-    write-row-requires
-    same-length
+    (λ c κs. search needs)  -- gate-line-requires
+    (λ c. search needs)  -- cast-write-row
+    (λ c. search needs)  -- mul-write-row
+    (λ c. search needs)  -- shared-slice-read-write-row
+    (λ c. search needs)  -- cast-write-row-2
+    (λ c. search needs)  -- mul-write-row-2
+    (λ c. search needs)  -- shared-slice-read-write-row-2
+    (λ c κs. search needs)  -- write-row-requires
+    (λ c. search needs)  -- same-length
     returns)

@@ -32,9 +32,6 @@ none c =
     let small = early-limit (decode (a .c .now)) (a .t .now) (a .rule) (a .gate) in
     ⊎-elim (λ w. omega (arith, w, e)) (λ w. omega (arith, w, e, small)) (c .match .came)
 
-judged-rule-requires : tie.Need-judged-rule-requires
-judged-rule-requires c κs = search needs
-
 early-verdict-requires : tie.Need-early-verdict-requires
 early-verdict-requires c κs =
     let s = c .before .before .before in
@@ -49,9 +46,6 @@ search-at-requires c κs =
     let p = early-none (decode (a .c .now)) (a .t .now) (a .rule) (a .gate) (none c) in
     let w = rule-at-place (a .t .now) (s .pre .1 .0) (a .rule) (p .0) (j .result .place) (judged-place (a .t .now) (a .rule) (j .result) (j .ensures) (p .0)) in
     (s .pre .0, (w, (gate-below (a .c .now) (a .gate) (p .2), s .pre .1 .1)))
-
-found-by-requires : tie.Need-found-by-requires
-found-by-requires c κs = search needs
 
 returns : tie.Need-returns
 returns c =
@@ -75,9 +69,9 @@ pub found-in-spec : {M : Type 1} → statement M
 found-in-spec =
     tie.close
     (tie.spec
-    judged-rule-requires
+    (λ c κs. search needs)  -- judged-rule-requires
     early-verdict-requires
     search-at-requires
-    found-by-requires
+    (λ c κs. search needs)  -- found-by-requires
     returns
     returns-2)

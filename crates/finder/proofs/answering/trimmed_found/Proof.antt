@@ -9,12 +9,6 @@ use borrow.Author.Needs.{needs}
 use Rattle.finder.proofs.answering.trimmed_found.Statement.{statement}
 use Rattle.finder.proofs.answering.trimmed_found.Tie as tie
 
-old-number-requires : tie.Need-old-number-requires
-old-number-requires c κs = search needs
-
-found-in-requires : tie.Need-found-in-requires
-found-in-requires c κs = search needs
-
 returns : tie.Need-returns
 returns c =
     let s = c .before .before .before .before in
@@ -25,4 +19,9 @@ returns c =
     ∙ sym (found-alike (decode (a .c .now)) (valid-decode (a .c .now) (s .pre .0)) (a .t .now) (a .rule) (a .limit) (a .gate)))
 
 pub trimmed-found-spec : {M : Type 1} → statement M
-trimmed-found-spec = tie.close (tie.spec old-number-requires found-in-requires returns)
+trimmed-found-spec =
+    tie.close
+    (tie.spec
+    (λ c κs. search needs)  -- old-number-requires
+    (λ c κs. search needs)  -- found-in-requires
+    returns)

@@ -9,17 +9,11 @@ use borrow.Author.Needs.{needs}
 use Rattle.finder.proofs.search.behind_crossed.Statement.{statement}
 use Rattle.finder.proofs.search.behind_crossed.Tie as tie
 
-shl-mask : tie.Need-shl-mask
-shl-mask c = search needs
-
 add-mask : tie.Need-add-mask
 add-mask c =
     let s = c .before .before in
     let l : s .args .i ≤ 15 = omega (arith, s .pre .0) in
     omega (arith, worth (s .args .i) (s .pre .0), s .pre .1 .0, pow-mono {i = s .args .i} {j = 15} l)
-
-add-t8 : tie.Need-add-t8
-add-t8 c = search needs
 
 returns : tie.Need-returns
 returns c =
@@ -29,4 +23,10 @@ returns c =
     (⊎-elim (λ w. inl (w .0 .taken, w .2 ∙ ap (λ h. h + a .s .mask) (worth (a .i) (s .pre .0)))) (λ w. inr (w .0 .left, w .1)) (c .before .if1 .came))
 
 pub behind-crossed-spec : {M : Type 1} → statement M
-behind-crossed-spec = tie.close (tie.spec shl-mask add-mask add-t8 returns)
+behind-crossed-spec =
+    tie.close
+    (tie.spec
+    (λ c. search needs)  -- shl-mask
+    add-mask
+    (λ c. search needs)  -- add-t8
+    returns)

@@ -6,21 +6,6 @@ use borrow.Author.Needs.{needs}
 use Rattle.finder.proofs.search.search_at.Statement.{statement}
 use Rattle.finder.proofs.search.search_at.Tie as tie
 
-start-bindings-requires : tie.Need-start-bindings-requires
-start-bindings-requires c κs = search needs
-
-gates-from-requires : tie.Need-gates-from-requires
-gates-from-requires c κs = search needs
-
-add-follow : tie.Need-add-follow
-add-follow c = search needs
-
-mul-follow : tie.Need-mul-follow
-mul-follow c = search needs
-
-shared-slice-read-follow : tie.Need-shared-slice-read-follow
-shared-slice-read-follow c = search needs
-
 follow-requires : tie.Need-follow-requires
 follow-requires c κs =
     let s = c .before .before .before .before .before .before in
@@ -36,10 +21,10 @@ pub search-at-spec : {M : Type 1} → statement M
 search-at-spec =
     tie.close
     (tie.spec
-    start-bindings-requires
-    gates-from-requires
-    add-follow
-    mul-follow
-    shared-slice-read-follow
+    (λ c κs. search needs)  -- start-bindings-requires
+    (λ c κs. search needs)  -- gates-from-requires
+    (λ c. search needs)  -- add-follow
+    (λ c. search needs)  -- mul-follow
+    (λ c. search needs)  -- shared-slice-read-follow
     follow-requires
     returns)

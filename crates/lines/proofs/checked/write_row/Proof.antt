@@ -6,32 +6,11 @@ use Rattle.lines.proofs.LineLaws.{row-stores}
 use Rattle.lines.proofs.checked.write_row.Statement.{statement}
 use Rattle.lines.proofs.checked.write_row.Tie as tie
 
-mul-table : tie.Need-mul-table
-mul-table c = search needs
-
-slice-write-table : tie.Need-slice-write-table
-slice-write-table c = search needs
-
-add-table : tie.Need-add-table
-add-table c = search needs
-
-mul-table-2 : tie.Need-mul-table-2
-mul-table-2 c = search needs
-
 slice-write-table-2 : tie.Need-slice-write-table-2
 slice-write-table-2 c = simp length-set (omega arith)
 
-add-table-2 : tie.Need-add-table-2
-add-table-2 c = search needs
-
-mul-table-3 : tie.Need-mul-table-3
-mul-table-3 c = search needs
-
 slice-write-table-3 : tie.Need-slice-write-table-3
 slice-write-table-3 c = simp length-set (omega arith)
-
-same-length : tie.Need-same-length
-same-length c = search needs
 
 returns : tie.Need-returns
 returns c = row-stores (c .args .table .now) (c .args .at) (c .args .a) (c .args .b) (c .args .c)
@@ -40,13 +19,13 @@ pub write-row-spec : {M : Type 1} → statement M
 write-row-spec =
     tie.close
     (tie.spec
-    mul-table
-    slice-write-table
-    add-table
-    mul-table-2
+    (λ c. search needs)  -- mul-table
+    (λ c. search needs)  -- slice-write-table
+    (λ c. search needs)  -- add-table
+    (λ c. search needs)  -- mul-table-2
     slice-write-table-2
-    add-table-2
-    mul-table-3
+    (λ c. search needs)  -- add-table-2
+    (λ c. search needs)  -- mul-table-3
     slice-write-table-3
-    same-length
+    (λ c. search needs)  -- same-length
     returns)

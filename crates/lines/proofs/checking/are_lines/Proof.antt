@@ -20,18 +20,6 @@ loop-holds : tie.Need-loop-holds Inv-loop μ-loop
 unfolding allRecords
 loop-holds c = (zero-le, refl)
 
-mul-is-line : tie.Need-mul-is-line Inv-loop μ-loop
-mul-is-line c = search needs
-
-is-line-requires : tie.Need-is-line-requires Inv-loop μ-loop
-is-line-requires c κs = search needs
-
-add-i : tie.Need-add-i Inv-loop μ-loop
-add-i c = search needs
-
-loop-less : tie.Need-loop-less Inv-loop μ-loop
-loop-less c = search needs
-
 loop-again : tie.Need-loop-again Inv-loop μ-loop
 loop-again c =
     let l = c .before .before in
@@ -49,9 +37,9 @@ are-lines-spec =
     Inv-loop
     μ-loop
     loop-holds
-    mul-is-line
-    is-line-requires
-    add-i
-    loop-less
+    (λ c. search needs)  -- mul-is-line
+    (λ c κs. search needs)  -- is-line-requires
+    (λ c. search needs)  -- add-i
+    (λ c. search needs)  -- loop-less
     loop-again
     returns)

@@ -5,27 +5,6 @@ use Rattle.lines.proofs.LineLaws.{line-test-at}
 use Rattle.lines.proofs.line.is_line.Statement.{statement}
 use Rattle.lines.proofs.line.is_line.Tie as tie
 
-is-number-requires : tie.Need-is-number-requires
-is-number-requires c κs = search needs
-
-add-is-number : tie.Need-add-is-number
-add-is-number c = search needs
-
-is-number-requires-2 : tie.Need-is-number-requires-2
-is-number-requires-2 c κs = search needs
-
-add-is-number-2 : tie.Need-add-is-number-2
-add-is-number-2 c = search needs
-
-is-number-requires-3 : tie.Need-is-number-requires-3
-is-number-requires-3 c κs = search needs
-
-add-end : tie.Need-add-end
-add-end c = search needs
-
-shared-slice-read-end : tie.Need-shared-slice-read-end
-shared-slice-read-end c = search needs
-
 returns : tie.Need-returns
 returns c =
     let s = c .before .before .before .before .before in
@@ -35,11 +14,11 @@ pub is-line-spec : {M : Type 1} → statement M
 is-line-spec =
     tie.close
     (tie.spec
-    is-number-requires
-    add-is-number
-    is-number-requires-2
-    add-is-number-2
-    is-number-requires-3
-    add-end
-    shared-slice-read-end
+    (λ c κs. search needs)  -- is-number-requires
+    (λ c. search needs)  -- add-is-number
+    (λ c κs. search needs)  -- is-number-requires-2
+    (λ c. search needs)  -- add-is-number-2
+    (λ c κs. search needs)  -- is-number-requires-3
+    (λ c. search needs)  -- add-end
+    (λ c. search needs)  -- shared-slice-read-end
     returns)

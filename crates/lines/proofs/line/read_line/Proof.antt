@@ -13,44 +13,17 @@ use Rattle.lines.proofs.line.read_line.Tie as tie
 read-number-requires : tie.Need-read-number-requires
 read-number-requires c κs = let s = c .before .before in let k = line-numbers (s .args .text .now) (s .args .at) (s .pre .0) (s .pre .1 .0) in (omega arith, cc)
 
-mul-table : tie.Need-mul-table
-mul-table c = search needs
-
-slice-write-table : tie.Need-slice-write-table
-slice-write-table c = search needs
-
-add-read-number : tie.Need-add-read-number
-add-read-number c = search needs
-
 read-number-requires-2 : tie.Need-read-number-requires-2
 read-number-requires-2 c κs = let s = c .before .before .before in let k = line-numbers (s .args .text .now) (s .args .at) (s .pre .0) (s .pre .1 .0) in (omega arith, cc)
-
-add-table : tie.Need-add-table
-add-table c = search needs
-
-mul-table-2 : tie.Need-mul-table-2
-mul-table-2 c = search needs
 
 slice-write-table-2 : tie.Need-slice-write-table-2
 slice-write-table-2 c = simp length-set (omega arith)
 
-add-read-number-2 : tie.Need-add-read-number-2
-add-read-number-2 c = search needs
-
 read-number-requires-3 : tie.Need-read-number-requires-3
 read-number-requires-3 c κs = let s = c .before .before .before .before in let k = line-numbers (s .args .text .now) (s .args .at) (s .pre .0) (s .pre .1 .0) in (omega arith, cc)
 
-add-table-2 : tie.Need-add-table-2
-add-table-2 c = search needs
-
-mul-table-3 : tie.Need-mul-table-3
-mul-table-3 c = search needs
-
 slice-write-table-3 : tie.Need-slice-write-table-3
 slice-write-table-3 c = simp length-set (omega arith)
-
-same-length : tie.Need-same-length
-same-length c = search needs
 
 returns : tie.Need-returns
 unfolding readLine
@@ -61,17 +34,17 @@ read-line-spec =
     tie.close
     (tie.spec
     read-number-requires
-    mul-table
-    slice-write-table
-    add-read-number
+    (λ c. search needs)  -- mul-table
+    (λ c. search needs)  -- slice-write-table
+    (λ c. search needs)  -- add-read-number
     read-number-requires-2
-    add-table
-    mul-table-2
+    (λ c. search needs)  -- add-table
+    (λ c. search needs)  -- mul-table-2
     slice-write-table-2
-    add-read-number-2
+    (λ c. search needs)  -- add-read-number-2
     read-number-requires-3
-    add-table-2
-    mul-table-3
+    (λ c. search needs)  -- add-table-2
+    (λ c. search needs)  -- mul-table-3
     slice-write-table-3
-    same-length
+    (λ c. search needs)  -- same-length
     returns)

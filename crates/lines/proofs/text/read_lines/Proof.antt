@@ -18,22 +18,10 @@ abbrev μ-loop : tie.MeasureT-loop
 loop-holds : tie.Need-loop-holds Inv-loop μ-loop
 loop-holds c = (zero-le, mapped-none readLine 19 3 _ _)
 
-mul-read-line : tie.Need-mul-read-line Inv-loop μ-loop
-mul-read-line c = search needs
-
-mul-read-line-2 : tie.Need-mul-read-line-2 Inv-loop μ-loop
-mul-read-line-2 c = search needs
-
 read-line-requires : tie.Need-read-line-requires Inv-loop μ-loop
 read-line-requires c κs =
     let s = c .before .before .before .before .before in
     (omega arith, (all-at isLine 19 (c .before .before .loop .i) (s .args .lines) (s .args .text .now) (omega arith) (s .pre .1 .0), omega arith))
-
-add-i : tie.Need-add-i Inv-loop μ-loop
-add-i c = search needs
-
-loop-less : tie.Need-loop-less Inv-loop μ-loop
-loop-less c = search needs
 
 loop-again : tie.Need-loop-again Inv-loop μ-loop
 loop-again c =
@@ -56,11 +44,11 @@ read-lines-spec =
     Inv-loop
     μ-loop
     loop-holds
-    mul-read-line
-    mul-read-line-2
+    (λ c. search needs)  -- mul-read-line
+    (λ c. search needs)  -- mul-read-line-2
     read-line-requires
-    add-i
-    loop-less
+    (λ c. search needs)  -- add-i
+    (λ c. search needs)  -- loop-less
     loop-again
     same-length
     returns)

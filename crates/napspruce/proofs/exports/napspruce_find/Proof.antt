@@ -13,46 +13,25 @@ use Rattle.napspruce.proofs.exports.napspruce_find.Tie as tie
 within : (c : tie.After-find-mask) → let a = c .before .before .before .args in Within findLimits (finding (a .circuit .now) (a .rules .now) (a .rule) (a .gate) (a .limit))
 within c = let a = c .before .before .before .args in find-is-within (a .circuit .now) (a .rules .now) (a .rule) (a .gate) (a .limit)
 
-find-mask-requires : tie.Need-find-mask-requires
-find-mask-requires c κs = search needs
-
-enum-known-mask : tie.Need-enum-known-mask
-enum-known-mask c = search needs
-
 pack-finding-requires : tie.Need-pack-finding-requires
 pack-finding-requires c κs =
     let r = c .before .before .before .find-mask in
     within-so findLimits _ (within (c .before .before .before)) (paperValues (r .result)) _ (r .ensures) (ap paperValues (c .before .mask .given .1))
-
-enum-known-verdict : tie.Need-enum-known-verdict
-enum-known-verdict c = search needs
 
 pack-finding-requires-2 : tie.Need-pack-finding-requires-2
 pack-finding-requires-2 c κs =
     let r = c .before .before .before .find-mask in
     within-so findLimits _ (within (c .before .before .before)) (paperValues (r .result)) _ (r .ensures) (ap paperValues (c .before .verdict .given .1))
 
-enum-known-ways : tie.Need-enum-known-ways
-enum-known-ways c = search needs
-
 pack-finding-requires-3 : tie.Need-pack-finding-requires-3
 pack-finding-requires-3 c κs =
     let r = c .before .before .before .find-mask in
     within-so findLimits _ (within (c .before .before .before)) (paperValues (r .result)) _ (r .ensures) (ap paperValues (c .before .ways .given .1))
 
-enum-known-most : tie.Need-enum-known-most
-enum-known-most c = search needs
-
 pack-finding-requires-4 : tie.Need-pack-finding-requires-4
 pack-finding-requires-4 c κs =
     let r = c .before .before .before .find-mask in
     within-so findLimits _ (within (c .before .before .before)) (paperValues (r .result)) _ (r .ensures) (ap paperValues (c .before .most .given .1))
-
-enum-known-refusal : tie.Need-enum-known-refusal
-enum-known-refusal c = search needs
-
-pack-refusal-requires : tie.Need-pack-refusal-requires
-pack-refusal-requires c κs = search needs
 
 returns : tie.Need-returns
 returns c =
@@ -83,17 +62,17 @@ pub napspruce-find-spec : {M : Type 1} → statement M
 napspruce-find-spec =
     tie.close
     (tie.spec
-    find-mask-requires
-    enum-known-mask
+    (λ c κs. search needs)  -- find-mask-requires
+    (λ c. search needs)  -- enum-known-mask
     pack-finding-requires
-    enum-known-verdict
+    (λ c. search needs)  -- enum-known-verdict
     pack-finding-requires-2
-    enum-known-ways
+    (λ c. search needs)  -- enum-known-ways
     pack-finding-requires-3
-    enum-known-most
+    (λ c. search needs)  -- enum-known-most
     pack-finding-requires-4
-    enum-known-refusal
-    pack-refusal-requires
+    (λ c. search needs)  -- enum-known-refusal
+    (λ c κs. search needs)  -- pack-refusal-requires
     returns
     returns-2
     returns-3

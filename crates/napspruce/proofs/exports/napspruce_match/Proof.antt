@@ -7,21 +7,6 @@ use Rattle.napspruce.proofs.ExportLaws.{packed-so}
 use Rattle.napspruce.proofs.exports.napspruce_match.Statement.{statement}
 use Rattle.napspruce.proofs.exports.napspruce_match.Tie as tie
 
-match-site-requires : tie.Need-match-site-requires
-match-site-requires c κs = search needs
-
-enum-known-verdict : tie.Need-enum-known-verdict
-enum-known-verdict c = search needs
-
-cast-result : tie.Need-cast-result
-cast-result c = search needs
-
-enum-known-refusal : tie.Need-enum-known-refusal
-enum-known-refusal c = search needs
-
-pack-refusal-requires : tie.Need-pack-refusal-requires
-pack-refusal-requires c κs = search needs
-
 returns : tie.Need-returns
 returns c =
     let r = c .before .before .before .match-site in
@@ -36,10 +21,10 @@ pub napspruce-match-spec : {M : Type 1} → statement M
 napspruce-match-spec =
     tie.close
     (tie.spec
-    match-site-requires
-    enum-known-verdict
-    cast-result
-    enum-known-refusal
-    pack-refusal-requires
+    (λ c κs. search needs)  -- match-site-requires
+    (λ c. search needs)  -- enum-known-verdict
+    (λ c. search needs)  -- cast-result
+    (λ c. search needs)  -- enum-known-refusal
+    (λ c κs. search needs)  -- pack-refusal-requires
     returns
     returns-2)

@@ -7,21 +7,6 @@ use Rattle.napspruce.proofs.ExportLaws.{packed-so}
 use Rattle.napspruce.proofs.exports.napspruce_measure.Statement.{statement}
 use Rattle.napspruce.proofs.exports.napspruce_measure.Tie as tie
 
-measure-requires : tie.Need-measure-requires
-measure-requires c κs = search needs
-
-enum-known-depth : tie.Need-enum-known-depth
-enum-known-depth c = search needs
-
-pack-two-requires : tie.Need-pack-two-requires
-pack-two-requires c κs = search needs
-
-enum-known-refusal : tie.Need-enum-known-refusal
-enum-known-refusal c = search needs
-
-pack-refusal-requires : tie.Need-pack-refusal-requires
-pack-refusal-requires c κs = search needs
-
 returns : tie.Need-returns
 returns c =
     let r = c .before .before .before .before .measure in
@@ -36,10 +21,10 @@ pub napspruce-measure-spec : {M : Type 1} → statement M
 napspruce-measure-spec =
     tie.close
     (tie.spec
-    measure-requires
-    enum-known-depth
-    pack-two-requires
-    enum-known-refusal
-    pack-refusal-requires
+    (λ c κs. search needs)  -- measure-requires
+    (λ c. search needs)  -- enum-known-depth
+    (λ c κs. search needs)  -- pack-two-requires
+    (λ c. search needs)  -- enum-known-refusal
+    (λ c κs. search needs)  -- pack-refusal-requires
     returns
     returns-2)

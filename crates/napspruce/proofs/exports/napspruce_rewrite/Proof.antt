@@ -7,12 +7,6 @@ use Rattle.napspruce.proofs.ExportLaws.{known-within, rewriting-so}
 use Rattle.napspruce.proofs.exports.napspruce_rewrite.Statement.{statement}
 use Rattle.napspruce.proofs.exports.napspruce_rewrite.Tie as tie
 
-rewrite-requires : tie.Need-rewrite-requires
-rewrite-requires c κs = search needs
-
-enum-known-old-depth : tie.Need-enum-known-old-depth
-enum-known-old-depth c = search needs
-
 pack-fields-requires : tie.Need-pack-fields-requires
 pack-fields-requires c κs =
     let r = c .before .before .before .before .before .before .before .before .before .rewrite in
@@ -20,36 +14,12 @@ pack-fields-requires c κs =
     let w = rewrite-is-within (a .circuit .now) (a .rules .now) (a .sites .now) (a .result .now) (a .work .now) (a .verdicts .now) in
     known-within _ _ _ _ w (paperValues (r .result)) _ (r .ensures) (ap paperValues (c .before .old-depth .given .1)) .1
 
-enum-known-refusal : tie.Need-enum-known-refusal
-enum-known-refusal c = search needs
-
-pack-refusal-requires : tie.Need-pack-refusal-requires
-pack-refusal-requires c κs = search needs
-
-same-length : tie.Need-same-length
-same-length c = search needs
-
-same-length-2 : tie.Need-same-length-2
-same-length-2 c = search needs
-
-same-length-3 : tie.Need-same-length-3
-same-length-3 c = search needs
-
 returns : tie.Need-returns
 returns c =
     let r = c .before .before .before .before .before .before .before .before .before .before .rewrite in
     let a = c .before .before .before .before .before .before .before .before .before .before .before .before .before .before .before .before .before .before .before .before .args in
     let w = rewrite-is-within (a .circuit .now) (a .rules .now) (a .sites .now) (a .result .now) (a .work .now) (a .verdicts .now) in
     rewriting-so _ _ _ _ w (paperValues (r .result)) _ (r .ensures) (ap paperValues (c .before .before .old-depth .given .1)) _ (c .pack-fields .ensures)
-
-same-length-4 : tie.Need-same-length-4
-same-length-4 c = search needs
-
-same-length-5 : tie.Need-same-length-5
-same-length-5 c = search needs
-
-same-length-6 : tie.Need-same-length-6
-same-length-6 c = search needs
 
 returns-2 : tie.Need-returns-2
 returns-2 c =
@@ -62,16 +32,16 @@ pub napspruce-rewrite-spec : {M : Type 1} → statement M
 napspruce-rewrite-spec =
     tie.close
     (tie.spec
-    rewrite-requires
-    enum-known-old-depth
+    (λ c κs. search needs)  -- rewrite-requires
+    (λ c. search needs)  -- enum-known-old-depth
     pack-fields-requires
-    enum-known-refusal
-    pack-refusal-requires
-    same-length
-    same-length-2
-    same-length-3
+    (λ c. search needs)  -- enum-known-refusal
+    (λ c κs. search needs)  -- pack-refusal-requires
+    (λ c. search needs)  -- same-length
+    (λ c. search needs)  -- same-length-2
+    (λ c. search needs)  -- same-length-3
     returns
-    same-length-4
-    same-length-5
-    same-length-6
+    (λ c. search needs)  -- same-length-4
+    (λ c. search needs)  -- same-length-5
+    (λ c. search needs)  -- same-length-6
     returns-2)

@@ -14,12 +14,6 @@ all-passed : (c : tie.Else1) → let a = c .before .before .before .before .befo
     Passed (textChecks (a .circuit .now) (a .rules .now) (a .sites .now) (length (a .listing .now)))
 all-passed c = passed _ (ap (λ (r : Refusal). r .number) (sym (c .before .before .list-refusal .ensures)) ∙ c .if1 .left)
 
-list-refusal-requires : tie.Need-list-refusal-requires
-list-refusal-requires c κs = search needs
-
-same-length : tie.Need-same-length
-same-length c = search needs
-
 returns : tie.Need-returns
 unfolding listingOutcome
 returns c =
@@ -31,9 +25,6 @@ list-accepted-requires c κs =
     let p = all-passed (c .before) in
     (p .0, (p .1 .0, (p .1 .1 .0, ltb-false _ _ (check-passed _ 1 _ (p .1 .1 .1 .0)))))
 
-same-length-2 : tie.Need-same-length-2
-same-length-2 c = search needs
-
 returns-2 : tie.Need-returns-2
 returns-2 c = c .before .before .list-accepted .ensures ∙ listing-accepted _ _ _ _ (all-passed (c .before .before .before .before))
 
@@ -41,9 +32,9 @@ pub list-spec : {M : Type 1} → statement M
 list-spec =
     tie.close
     (tie.spec
-    list-refusal-requires
-    same-length
+    (λ c κs. search needs)  -- list-refusal-requires
+    (λ c. search needs)  -- same-length
     returns
     list-accepted-requires
-    same-length-2
+    (λ c. search needs)  -- same-length-2
     returns-2)

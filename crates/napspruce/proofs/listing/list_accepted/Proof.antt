@@ -8,24 +8,6 @@ use Rattle.napspruce.proofs.ShortenedLaws.{shortened-whole}
 use Rattle.napspruce.proofs.listing.list_accepted.Statement.{statement}
 use Rattle.napspruce.proofs.listing.list_accepted.Tie as tie
 
-slice-aggregate-read-circuit : tie.Need-slice-aggregate-read-circuit
-slice-aggregate-read-circuit c = search needs
-
-read-circuit-requires : tie.Need-read-circuit-requires
-read-circuit-requires c κs = search needs
-
-slice-aggregate-read-front : tie.Need-slice-aggregate-read-front
-slice-aggregate-read-front c = search needs
-
-read-front-requires : tie.Need-read-front-requires
-read-front-requires c κs = search needs
-
-slice-aggregate-read-front-2 : tie.Need-slice-aggregate-read-front-2
-slice-aggregate-read-front-2 c = search needs
-
-read-front-requires-2 : tie.Need-read-front-requires-2
-read-front-requires-2 c κs = search needs
-
 array-share-prefix-circuit-table : tie.Need-array-share-prefix-circuit-table
 array-share-prefix-circuit-table c =
     let r = c .before .before .before .before .before .before .before .read-circuit in
@@ -70,9 +52,6 @@ list-tables-requires c κs =
       ),
     )
 
-same-length : tie.Need-same-length
-same-length c = search needs
-
 returns : tie.Need-returns
 returns c =
     let s = c .before .before .before .before .before .before .before .before .before .before .before .before .before .before .before .before .before .before .before .before in
@@ -88,12 +67,12 @@ pub list-accepted-spec : {M : Type 1} → statement M
 list-accepted-spec =
     tie.close
     (tie.spec
-    slice-aggregate-read-circuit
-    read-circuit-requires
-    slice-aggregate-read-front
-    read-front-requires
-    slice-aggregate-read-front-2
-    read-front-requires-2
+    (λ c. search needs)  -- slice-aggregate-read-circuit
+    (λ c κs. search needs)  -- read-circuit-requires
+    (λ c. search needs)  -- slice-aggregate-read-front
+    (λ c κs. search needs)  -- read-front-requires
+    (λ c. search needs)  -- slice-aggregate-read-front-2
+    (λ c κs. search needs)  -- read-front-requires-2
     array-share-prefix-circuit-table
     slice-aggregate-list-tables
     array-share-prefix-rules-table
@@ -101,5 +80,5 @@ list-accepted-spec =
     array-share-prefix-sites-table
     slice-aggregate-list-tables-3
     list-tables-requires
-    same-length
+    (λ c. search needs)  -- same-length
     returns)

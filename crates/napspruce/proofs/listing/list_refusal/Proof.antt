@@ -22,41 +22,17 @@ past3 : (c : tie.Else3) (r : Refusal) → let a = c .before .before .before .bef
     let ks = textChecks (a .circuit .now) (a .rules .now) (a .sites .now) (length (a .listing .now)) in r ≡ firstFound (drop 3 ks) → r ≡ firstFound ks
 past3 c r e = past2 (c .before .before) r (found-later _ _ _ r _ (c .before .text-refusal3 .ensures) (c .if3 .left) e)
 
-text-refusal-requires : tie.Need-text-refusal-requires
-text-refusal-requires c κs = search needs
-
-refuse-requires : tie.Need-refuse-requires
-refuse-requires c κs = search needs
-
 returns : tie.Need-returns
 returns c = found-here _ _ _ _ _ (c .before .before .text-refusal .ensures) (c .before .if1 .taken) (c .refuse .ensures)
-
-text-refusal-requires-2 : tie.Need-text-refusal-requires-2
-text-refusal-requires-2 c κs = search needs
-
-refuse-requires-2 : tie.Need-refuse-requires-2
-refuse-requires-2 c κs = search needs
 
 returns-2 : tie.Need-returns-2
 returns-2 c = past1 (c .before .before .before) _ (found-here _ _ _ _ _ (c .before .before .text-refusal2 .ensures) (c .before .if2 .taken) (c .refuse2 .ensures))
 
-text-refusal-requires-3 : tie.Need-text-refusal-requires-3
-text-refusal-requires-3 c κs = search needs
-
-refuse-requires-3 : tie.Need-refuse-requires-3
-refuse-requires-3 c κs = search needs
-
 returns-3 : tie.Need-returns-3
 returns-3 c = past2 (c .before .before .before) _ (found-here _ _ _ _ _ (c .before .before .text-refusal3 .ensures) (c .before .if3 .taken) (c .refuse3 .ensures))
 
-refuse-requires-4 : tie.Need-refuse-requires-4
-refuse-requires-4 c κs = search needs
-
 returns-4 : tie.Need-returns-4
 returns-4 c = past3 (c .before .before) _ (applies-here _ _ _ _ _ (lt-ltb _ _ (c .before .if4 .taken)) (c .refuse4 .ensures))
-
-refuse-requires-5 : tie.Need-refuse-requires-5
-refuse-requires-5 c κs = search needs
 
 returns-5 : tie.Need-returns-5
 returns-5 c = past3 (c .before .before) _ (applies-later _ _ _ _ _ (le-ltb _ _ (c .before .if4 .left)) (c .refuse5 .ensures ∙ found-none))
@@ -65,16 +41,16 @@ pub list-refusal-spec : {M : Type 1} → statement M
 list-refusal-spec =
     tie.close
     (tie.spec
-    text-refusal-requires
-    refuse-requires
+    (λ c κs. search needs)  -- text-refusal-requires
+    (λ c κs. search needs)  -- refuse-requires
     returns
-    text-refusal-requires-2
-    refuse-requires-2
+    (λ c κs. search needs)  -- text-refusal-requires-2
+    (λ c κs. search needs)  -- refuse-requires-2
     returns-2
-    text-refusal-requires-3
-    refuse-requires-3
+    (λ c κs. search needs)  -- text-refusal-requires-3
+    (λ c κs. search needs)  -- refuse-requires-3
     returns-3
-    refuse-requires-4
+    (λ c κs. search needs)  -- refuse-requires-4
     returns-4
-    refuse-requires-5
+    (λ c κs. search needs)  -- refuse-requires-5
     returns-5)

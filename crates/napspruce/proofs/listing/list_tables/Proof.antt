@@ -13,21 +13,6 @@ use Rattle.napspruce.proofs.CallLaws.{Rewrote, rewrote, enough-room, li
 use Rattle.napspruce.proofs.listing.list_tables.Statement.{statement}
 use Rattle.napspruce.proofs.listing.list_tables.Tie as tie
 
-slice-aggregate-rewrite : tie.Need-slice-aggregate-rewrite
-slice-aggregate-rewrite c = search needs
-
-slice-aggregate-rewrite-2 : tie.Need-slice-aggregate-rewrite-2
-slice-aggregate-rewrite-2 c = search needs
-
-slice-aggregate-rewrite-3 : tie.Need-slice-aggregate-rewrite-3
-slice-aggregate-rewrite-3 c = search needs
-
-rewrite-requires : tie.Need-rewrite-requires
-rewrite-requires c κs = search needs
-
-enum-known-lines : tie.Need-enum-known-lines
-enum-known-lines c = search needs
-
 -- what the rewriting has left
 so : (k : tie.After-known-told) → let a = k .before .before .before .before .before .before .before .before .before .before .before .before .before .before .args in let r = k .before .before .before .before .before .before .rewrite in
     Rewrote (a .circuit .now) (a .rules .now) (a .sites .now) (r .last .1 .1 .1 .0) (r .last .1 .1 .1 .1 .1 .0) (k .before .lines .given .0 .0)
@@ -42,15 +27,6 @@ so k =
 shared-slice-read-t28 : tie.Need-shared-slice-read-t28
 shared-slice-read-t28 c = let w = whole-is 3 (c .before .before .before .before .before .before .before .before .before .before .before .before .before .before .before .args .sites .now) (c .before .before .before .before .before .before .before .before .before .before .before .before .before .before .before .pre .1 .1 .0) in omega (arith, w .long, w .some)
 
-cast-count : tie.Need-cast-count
-cast-count c = search needs
-
-slice-aggregate-write-listing : tie.Need-slice-aggregate-write-listing
-slice-aggregate-write-listing c = search needs
-
-slice-aggregate-write-listing-2 : tie.Need-slice-aggregate-write-listing-2
-slice-aggregate-write-listing-2 c = search needs
-
 write-listing-requires : tie.Need-write-listing-requires
 write-listing-requires c κs =
     let k = c .before .before .before .before in
@@ -63,12 +39,6 @@ write-listing-requires c κs =
         (w .site-limit, omega (arith, w .line-limit, w .site-limit, s .pre .1 .1 .1)),
       ),
     )
-
-enum-known-refusal : tie.Need-enum-known-refusal
-enum-known-refusal c = search needs
-
-same-length : tie.Need-same-length
-same-length c = search needs
 
 returns : tie.Need-returns
 returns c =
@@ -91,17 +61,17 @@ pub list-tables-spec : {M : Type 1} → statement M
 list-tables-spec =
     tie.close
     (tie.spec
-    slice-aggregate-rewrite
-    slice-aggregate-rewrite-2
-    slice-aggregate-rewrite-3
-    rewrite-requires
-    enum-known-lines
+    (λ c. search needs)  -- slice-aggregate-rewrite
+    (λ c. search needs)  -- slice-aggregate-rewrite-2
+    (λ c. search needs)  -- slice-aggregate-rewrite-3
+    (λ c κs. search needs)  -- rewrite-requires
+    (λ c. search needs)  -- enum-known-lines
     shared-slice-read-t28
-    cast-count
-    slice-aggregate-write-listing
-    slice-aggregate-write-listing-2
+    (λ c. search needs)  -- cast-count
+    (λ c. search needs)  -- slice-aggregate-write-listing
+    (λ c. search needs)  -- slice-aggregate-write-listing-2
     write-listing-requires
-    enum-known-refusal
-    same-length
+    (λ c. search needs)  -- enum-known-refusal
+    (λ c. search needs)  -- same-length
     returns
     returns-2)

@@ -9,39 +9,6 @@ use Rattle.napspruce.proofs.WriteLaws.{listing-length, listing-written}
 use Rattle.napspruce.proofs.listing.write_listing.Statement.{statement}
 use Rattle.napspruce.proofs.listing.write_listing.Tie as tie
 
-mul-at : tie.Need-mul-at
-mul-at c = search needs
-
-cast-count : tie.Need-cast-count
-cast-count c = search needs
-
-write-summary-requires : tie.Need-write-summary-requires
-write-summary-requires c κs = search needs
-
-add-write-verdicts : tie.Need-add-write-verdicts
-add-write-verdicts c = search needs
-
-write-verdicts-requires : tie.Need-write-verdicts-requires
-write-verdicts-requires c κs = search needs
-
-add-rows : tie.Need-add-rows
-add-rows c = search needs
-
-add-rows-2 : tie.Need-add-rows-2
-add-rows-2 c = search needs
-
-write-lines-requires : tie.Need-write-lines-requires
-write-lines-requires c κs = search needs
-
-mul-result : tie.Need-mul-result
-mul-result c = search needs
-
-same-length : tie.Need-same-length
-same-length c = search needs
-
-same-length-2 : tie.Need-same-length-2
-same-length-2 c = search needs
-
 returns : tie.Need-returns
 returns c =
     let s = c .before .before .before .before .before .before .before .before .before .before .before .before .before .before .before .before .before in
@@ -62,15 +29,15 @@ pub write-listing-spec : {M : Type 1} → statement M
 write-listing-spec =
     tie.close
     (tie.spec
-    mul-at
-    cast-count
-    write-summary-requires
-    add-write-verdicts
-    write-verdicts-requires
-    add-rows
-    add-rows-2
-    write-lines-requires
-    mul-result
-    same-length
-    same-length-2
+    (λ c. search needs)  -- mul-at
+    (λ c. search needs)  -- cast-count
+    (λ c κs. search needs)  -- write-summary-requires
+    (λ c. search needs)  -- add-write-verdicts
+    (λ c κs. search needs)  -- write-verdicts-requires
+    (λ c. search needs)  -- add-rows
+    (λ c. search needs)  -- add-rows-2
+    (λ c κs. search needs)  -- write-lines-requires
+    (λ c. search needs)  -- mul-result
+    (λ c. search needs)  -- same-length
+    (λ c. search needs)  -- same-length-2
     returns)

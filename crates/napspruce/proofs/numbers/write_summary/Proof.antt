@@ -9,24 +9,6 @@ use Rattle.napspruce.proofs.NumberLaws.{summary-stores}
 use Rattle.napspruce.proofs.numbers.write_summary.Statement.{statement}
 use Rattle.napspruce.proofs.numbers.write_summary.Tie as tie
 
-write-row-requires : tie.Need-write-row-requires
-write-row-requires c κs = search needs
-
-add-write-row : tie.Need-add-write-row
-add-write-row c = search needs
-
-write-row-requires-2 : tie.Need-write-row-requires-2
-write-row-requires-2 c κs = search needs
-
-add-write-row-2 : tie.Need-add-write-row-2
-add-write-row-2 c = search needs
-
-write-row-requires-3 : tie.Need-write-row-requires-3
-write-row-requires-3 c κs = search needs
-
-same-length : tie.Need-same-length
-same-length c = search needs
-
 returns : tie.Need-returns
 returns c =
     let s = c .before .before .before .before .before .before .before .before .before .before .before .before .before in
@@ -42,10 +24,10 @@ pub write-summary-spec : {M : Type 1} → statement M
 write-summary-spec =
     tie.close
     (tie.spec
-    write-row-requires
-    add-write-row
-    write-row-requires-2
-    add-write-row-2
-    write-row-requires-3
-    same-length
+    (λ c κs. search needs)  -- write-row-requires
+    (λ c. search needs)  -- add-write-row
+    (λ c κs. search needs)  -- write-row-requires-2
+    (λ c. search needs)  -- add-write-row-2
+    (λ c κs. search needs)  -- write-row-requires-3
+    (λ c. search needs)  -- same-length
     returns)

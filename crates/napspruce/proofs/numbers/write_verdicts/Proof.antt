@@ -18,33 +18,6 @@ abbrev μ-loop : tie.MeasureT-loop
 loop-holds : tie.Need-loop-holds Inv-loop μ-loop
 loop-holds c = let s = c .before .before in (zero-le, verdicts-none (take (s .args .count) (s .args .verdicts .now)) (s .args .table .now) (s .args .at))
 
-shared-slice-read-verdict-number : tie.Need-shared-slice-read-verdict-number Inv-loop μ-loop
-shared-slice-read-verdict-number c = search needs
-
-verdict-number-requires : tie.Need-verdict-number-requires Inv-loop μ-loop
-verdict-number-requires c κs = search needs
-
-cast-number : tie.Need-cast-number Inv-loop μ-loop
-cast-number c = search needs
-
-add-number : tie.Need-add-number Inv-loop μ-loop
-add-number c = search needs
-
-mul-write-row : tie.Need-mul-write-row Inv-loop μ-loop
-mul-write-row c = search needs
-
-add-write-row : tie.Need-add-write-row Inv-loop μ-loop
-add-write-row c = search needs
-
-write-row-requires : tie.Need-write-row-requires Inv-loop μ-loop
-write-row-requires c κs = search needs
-
-add-i : tie.Need-add-i Inv-loop μ-loop
-add-i c = search needs
-
-loop-less : tie.Need-loop-less Inv-loop μ-loop
-loop-less c = search needs
-
 loop-again : tie.Need-loop-again Inv-loop μ-loop
 loop-again c =
     let l = c .before .before .before .before .before .before .before .loop in
@@ -57,9 +30,6 @@ loop-again c =
           (c .before .before .before .before .verdict-number .ensures ∙ first-verdict (s .args .verdicts .now) (s .args .count) (l .i) h)
           (c .before .before .write-row .ensures),
     )
-
-same-length : tie.Need-same-length Inv-loop μ-loop
-same-length c = search needs
 
 returns : tie.Need-returns Inv-loop μ-loop
 returns c =
@@ -76,15 +46,15 @@ write-verdicts-spec =
     Inv-loop
     μ-loop
     loop-holds
-    shared-slice-read-verdict-number
-    verdict-number-requires
-    cast-number
-    add-number
-    mul-write-row
-    add-write-row
-    write-row-requires
-    add-i
-    loop-less
+    (λ c. search needs)  -- shared-slice-read-verdict-number
+    (λ c κs. search needs)  -- verdict-number-requires
+    (λ c. search needs)  -- cast-number
+    (λ c. search needs)  -- add-number
+    (λ c. search needs)  -- mul-write-row
+    (λ c. search needs)  -- add-write-row
+    (λ c κs. search needs)  -- write-row-requires
+    (λ c. search needs)  -- add-i
+    (λ c. search needs)  -- loop-less
     loop-again
-    same-length
+    (λ c. search needs)  -- same-length
     returns)

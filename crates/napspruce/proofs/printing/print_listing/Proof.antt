@@ -9,18 +9,6 @@ use Rattle.napspruce.proofs.ListingTheorems.{printed-listing, printed-r
 use Rattle.napspruce.proofs.printing.print_listing.Statement.{statement}
 use Rattle.napspruce.proofs.printing.print_listing.Tie as tie
 
-list-requires : tie.Need-list-requires
-list-requires c κs = search needs
-
-enum-known-length : tie.Need-enum-known-length
-enum-known-length c = search needs
-
-enum-known-refusal : tie.Need-enum-known-refusal
-enum-known-refusal c = search needs
-
-write-refusal-requires : tie.Need-write-refusal-requires
-write-refusal-requires c κs = search needs
-
 returns : tie.Need-returns
 returns c =
     let a = c .before .before .before .before .before .before .before .before .args in
@@ -40,9 +28,9 @@ pub print-listing-spec : {M : Type 1} → statement M
 print-listing-spec =
     tie.close
     (tie.spec
-    list-requires
-    enum-known-length
-    enum-known-refusal
-    write-refusal-requires
+    (λ c κs. search needs)  -- list-requires
+    (λ c. search needs)  -- enum-known-length
+    (λ c. search needs)  -- enum-known-refusal
+    (λ c κs. search needs)  -- write-refusal-requires
     returns
     returns-2)

@@ -4,15 +4,6 @@ use Rattle.napspruce.proofs.WriteLaws.{refusal-length, refusal-written}
 use Rattle.napspruce.proofs.printing.write_refusal.Statement.{statement}
 use Rattle.napspruce.proofs.printing.write_refusal.Tie as tie
 
-slice-aggregate-write-lines : tie.Need-slice-aggregate-write-lines
-slice-aggregate-write-lines c = search needs
-
-write-lines-requires : tie.Need-write-lines-requires
-write-lines-requires c κs = search needs
-
-same-length : tie.Need-same-length
-same-length c = search needs
-
 returns : tie.Need-returns
 returns c =
     let s = c .before .before .before .before .before .before in
@@ -20,4 +11,10 @@ returns c =
     (refusal-length (r .number) (r .table), refusal-written (r .number) (r .table) (s .args .out .now) _ (c .before .before .write-lines .ensures))
 
 pub write-refusal-spec : {M : Type 1} → statement M
-write-refusal-spec = tie.close (tie.spec slice-aggregate-write-lines write-lines-requires same-length returns)
+write-refusal-spec =
+    tie.close
+    (tie.spec
+    (λ c. search needs)  -- slice-aggregate-write-lines
+    (λ c κs. search needs)  -- write-lines-requires
+    (λ c. search needs)  -- same-length
+    returns)

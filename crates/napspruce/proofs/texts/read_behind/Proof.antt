@@ -17,9 +17,6 @@ sub-smaller c =
     let s = c .before .before in
     omega (arith, numbers-long (s .args .text .now) (s .pre .0), s .pre .1 .0)
 
-smaller-requires : tie.Need-smaller-requires
-smaller-requires c κs = search needs
-
 mul-at : tie.Need-mul-at
 mul-at c =
     let s = c .before .before .before in
@@ -38,21 +35,6 @@ part-read-lines-start c =
     let k = behind-lines (s .args .text .now) (s .pre .0) (s .args .from) (s .args .most) (c .smaller .result) (s .pre .1 .0) (c .smaller .ensures) in
     omega (arith, k .1)
 
-part-read-lines-end : tie.Need-part-read-lines-end
-part-read-lines-end c = search needs
-
-mul-read-lines : tie.Need-mul-read-lines
-mul-read-lines c = search needs
-
-sub-read-lines-2 : tie.Need-sub-read-lines-2
-sub-read-lines-2 c = search needs
-
-part-read-lines-start-2 : tie.Need-part-read-lines-start-2
-part-read-lines-start-2 c = search needs
-
-part-read-lines-end-2 : tie.Need-part-read-lines-end-2
-part-read-lines-end-2 c = search needs
-
 read-lines-requires : tie.Need-read-lines-requires
 read-lines-requires c κs =
     let s = c .before .before .before .before .before in
@@ -63,9 +45,6 @@ read-lines-requires c κs =
       rw lent (k .2),
       (rw lent (k .3), omega (arith, k .0, s .pre .1 .1, length-drop (a .to) (a .table .now), length-take (length (a .table .now) - a .to) (drop (a .to) (a .table .now)))),
     )
-
-same-length : tie.Need-same-length
-same-length c = search needs
 
 returns : tie.Need-returns
 returns c =
@@ -81,15 +60,15 @@ read-behind-spec =
     tie.close
     (tie.spec
     sub-smaller
-    smaller-requires
+    (λ c κs. search needs)  -- smaller-requires
     mul-at
     sub-read-lines
     part-read-lines-start
-    part-read-lines-end
-    mul-read-lines
-    sub-read-lines-2
-    part-read-lines-start-2
-    part-read-lines-end-2
+    (λ c. search needs)  -- part-read-lines-end
+    (λ c. search needs)  -- mul-read-lines
+    (λ c. search needs)  -- sub-read-lines-2
+    (λ c. search needs)  -- part-read-lines-start-2
+    (λ c. search needs)  -- part-read-lines-end-2
     read-lines-requires
-    same-length
+    (λ c. search needs)  -- same-length
     returns)

@@ -15,12 +15,6 @@ fits : (c : tie.After-smaller)
     → (3 * (1 + c .before .before .text-starts .result) ≤ length (readText (c .before .before .before .before .before .args .text .now))) × (c .smaller .result ≤ maxInputs + 1)
 fits c = parts-fit (c .before .before .before .before .before .args .text .now) (c .before .before .before .before .before .pre .0) (c .before .before .text-starts .result) (c .smaller .result) (c .before .before .text-starts .ensures) (c .smaller .ensures)
 
-text-starts-requires : tie.Need-text-starts-requires
-text-starts-requires c κs = search needs
-
-smaller-requires : tie.Need-smaller-requires
-smaller-requires c κs = search needs
-
 add-read-front : tie.Need-add-read-front
 add-read-front c = omega (arith, fits c)
 
@@ -61,9 +55,6 @@ add-result c =
     let end = front-end (s .args .text .now) (s .pre .0) (n .result) (k .result) (n .ensures) (k .ensures) (r .result) (r .ensures .0) in
     omega (arith, end, fits (c .before .before .before .before .before .before .before), b .ensures .0, length-take (3 * restRead) (drop (3 * (1 + n .result)) t))
 
-same-length : tie.Need-same-length
-same-length c = search needs
-
 returns : tie.Need-returns
 returns c =
     let s = c .before .before .before .before .before .before .before .before .before .before .before .before in
@@ -82,13 +73,13 @@ pub read-circuit-spec : {M : Type 1} → statement M
 read-circuit-spec =
     tie.close
     (tie.spec
-    text-starts-requires
-    smaller-requires
+    (λ c κs. search needs)  -- text-starts-requires
+    (λ c κs. search needs)  -- smaller-requires
     add-read-front
     read-front-requires
     add-read-behind
     read-behind-requires
     mul-result
     add-result
-    same-length
+    (λ c. search needs)  -- same-length
     returns)

@@ -11,9 +11,6 @@ use Rattle.napspruce.proofs.TextLaws.{front-lines, front-numbers, front
 use Rattle.napspruce.proofs.texts.read_front.Statement.{statement}
 use Rattle.napspruce.proofs.texts.read_front.Tie as tie
 
-smaller-requires : tie.Need-smaller-requires
-smaller-requires c κs = search needs
-
 -- how many lines are read
 count : (c : tie.After-smaller) → let a = c .before .before .before .args in
     (c .smaller .result ≤ a .most) × (19 * c .smaller .result ≤ length (a .text .now)) × (allRecords isLine 19 (c .smaller .result) (a .text .now) ≡ true)
@@ -27,9 +24,6 @@ read-lines-requires c κs = let k = count (c .before) in (k .1, (k .2, omega (ar
 mul-result : tie.Need-mul-result
 mul-result c = omega (arith, count (c .before .before .before .before))
 
-same-length : tie.Need-same-length
-same-length c = search needs
-
 returns : tie.Need-returns
 returns c =
     let t = c .before .before .before .before in
@@ -42,8 +36,8 @@ pub read-front-spec : {M : Type 1} → statement M
 read-front-spec =
     tie.close
     (tie.spec
-    smaller-requires
+    (λ c κs. search needs)  -- smaller-requires
     read-lines-requires
     mul-result
-    same-length
+    (λ c. search needs)  -- same-length
     returns)

@@ -6,15 +6,6 @@ use Rattle.napspruce.proofs.TextLaws.{text-valid, text-refused}
 use Rattle.napspruce.proofs.texts.text_refusal.Statement.{statement}
 use Rattle.napspruce.proofs.texts.text_refusal.Tie as tie
 
-validate-requires : tie.Need-validate-requires
-validate-requires c κs = search needs
-
-enum-told : tie.Need-enum-told
-enum-told c = search needs
-
-enum-known-refusal : tie.Need-enum-known-refusal
-enum-known-refusal c = search needs
-
 returns : tie.Need-returns
 returns c = text-valid _ _ (sym (c .before .before .validate .ensures) ∙ ap paperValues (c .enum-told .given .1))
 
@@ -23,4 +14,10 @@ returns-2 c = text-refused _ _ _ (sym (c .before .before .before .validate .ensu
 
 pub text-refusal-spec : {M : Type 1} → statement M
 text-refusal-spec =
-    tie.close (tie.spec validate-requires enum-told enum-known-refusal returns returns-2)
+    tie.close
+    (tie.spec
+    (λ c κs. search needs)  -- validate-requires
+    (λ c. search needs)  -- enum-told
+    (λ c. search needs)  -- enum-known-refusal
+    returns
+    returns-2)

@@ -26,29 +26,17 @@ read-number-requires c κs =
     let s = c .before .before .before in
     line-there (s .args .text .now) (s .pre) (c .before .loop .i) (c .before .loop .inv) (c .loop-test .taken)
 
-sub-result : tie.Need-sub-result Inv-loop μ-loop
-sub-result c = search needs
-
 returns : tie.Need-returns Inv-loop μ-loop
 returns c =
     let s = c .before .before .before .before .before in
     let l = c .before .before .before .loop in
     starts-stop (s .args .text .now) (s .pre) (l .i) (l .inv) (c .before .before .loop-test .taken) (λ e. c .if1 .taken (c .before .read-number .ensures ∙ e))
 
-add-i : tie.Need-add-i Inv-loop μ-loop
-add-i c = search needs
-
-loop-less : tie.Need-loop-less Inv-loop μ-loop
-loop-less c = search needs
-
 loop-again : tie.Need-loop-again Inv-loop μ-loop
 loop-again c =
     let s = c .before .before .before .before .before in
     let l = c .before .before .before .loop in
     starts-more (s .args .text .now) (s .pre) (l .i) (l .inv) (c .before .before .loop-test .taken) (sym (c .before .read-number .ensures) ∙ c .if1 .left)
-
-sub-result-2 : tie.Need-sub-result-2 Inv-loop μ-loop
-sub-result-2 c = search needs
 
 returns-2 : tie.Need-returns-2 Inv-loop μ-loop
 returns-2 c =
@@ -64,10 +52,10 @@ text-starts-spec =
     loop-holds
     mul-read-number
     read-number-requires
-    sub-result
+    (λ c. search needs)  -- sub-result
     returns
-    add-i
-    loop-less
+    (λ c. search needs)  -- add-i
+    (λ c. search needs)  -- loop-less
     loop-again
-    sub-result-2
+    (λ c. search needs)  -- sub-result-2
     returns-2)

@@ -16,9 +16,6 @@ cast-result c =
     let s = c .before .before .before .before .before .before in
     omega (arith, s .pre .0 .sized, starts-are-inputs (s .args .table .now) (s .pre .0))
 
-same-length : tie.Need-same-length
-same-length c = search needs
-
 returns : tie.Need-returns
 returns c =
     let s = c .before .before .before .before .before .before in
@@ -26,4 +23,10 @@ returns c =
     (omega (arith, s .pre .0 .sized, starts-length (a .table .now), gates-length (a .table .now), outputs-length (a .table .now)), c .before .before .copy-over .ensures)
 
 pub copy-table-spec : {M : Type 1} → statement M
-copy-table-spec = tie.close (tie.spec copy-over-requires cast-result same-length returns)
+copy-table-spec =
+    tie.close
+    (tie.spec
+    copy-over-requires
+    cast-result
+    (λ c. search needs)  -- same-length
+    returns)

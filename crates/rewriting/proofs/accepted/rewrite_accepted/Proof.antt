@@ -15,25 +15,10 @@ use borrow.Author.Needs.{needs}
 use Rattle.rewriting.proofs.accepted.rewrite_accepted.Statement.{statement}
 use Rattle.rewriting.proofs.accepted.rewrite_accepted.Tie as tie
 
-slice-aggregate-pair-with-reverse-depths : tie.Need-slice-aggregate-pair-with-reverse-depths
-slice-aggregate-pair-with-reverse-depths c = search needs
-
-slice-aggregate-pair-with-reverse-depths-2 : tie.Need-slice-aggregate-pair-with-reverse-depths-2
-slice-aggregate-pair-with-reverse-depths-2 c = search needs
-
 pair-with-reverse-depths-requires : tie.Need-pair-with-reverse-depths-requires
 pair-with-reverse-depths-requires c κs =
     let w = c .before .before .before .before .before .before .before .before .pre .0 in
     (w, (omega (arith, w .sized), omega (arith, w .sized)))
-
-slice-aggregate-keep : tie.Need-slice-aggregate-keep
-slice-aggregate-keep c = search needs
-
-slice-aggregate-keep-2 : tie.Need-slice-aggregate-keep-2
-slice-aggregate-keep-2 c = search needs
-
-slice-aggregate-keep-3 : tie.Need-slice-aggregate-keep-3
-slice-aggregate-keep-3 c = search needs
 
 keep-requires : tie.Need-keep-requires
 keep-requires c κs =
@@ -43,15 +28,6 @@ keep-requires c κs =
     let o = c .before .before .before .before .before .before .pair-with-reverse-depths in
     let room = long-enough (a .result .now) (a .work .now) (a .verdicts .now) (s .pre .1 .1 .1) in
     (w, (o .ensures .0, ((omega (arith, w .sized, o .kept .1 .0), depths-front (a .circuit .now) _ _ (o .ensures .1 .0)), ((omega (arith, w .sized, o .kept .1 .1 .0), reverse-front (a .circuit .now) _ _ (o .ensures .1 .1)), (omega arith, room .1)))))
-
-slice-aggregate-run-sites : tie.Need-slice-aggregate-run-sites
-slice-aggregate-run-sites c = search needs
-
-slice-aggregate-run-sites-2 : tie.Need-slice-aggregate-run-sites-2
-slice-aggregate-run-sites-2 c = search needs
-
-slice-aggregate-run-sites-3 : tie.Need-slice-aggregate-run-sites-3
-slice-aggregate-run-sites-3 c = search needs
 
 run-sites-requires : tie.Need-run-sites-requires
 run-sites-requires c κs =
@@ -73,15 +49,6 @@ copy-table-requires c κs =
     let s = c .before .before .before .before .before .before .before .before .before .before .before .before .before .before .before .before .before .before .before .before .before .before .before .before .before .before .before .before .before .before .before .before .before .before .before in
     let a = s .args in
     (c .before .before .before .before .before .before .before .before .before .run-sites .ensures .1 .0 .table, long-enough (a .result .now) (a .work .now) (a .verdicts .now) (s .pre .1 .1 .1) .0)
-
-same-length : tie.Need-same-length
-same-length c = search needs
-
-same-length-2 : tie.Need-same-length-2
-same-length-2 c = search needs
-
-same-length-3 : tie.Need-same-length-3
-same-length-3 c = search needs
 
 returns : tie.Need-returns
 returns c =
@@ -109,21 +76,21 @@ pub rewrite-accepted-spec : {M : Type 1} → statement M
 rewrite-accepted-spec =
     tie.close
     (tie.spec
-    slice-aggregate-pair-with-reverse-depths
-    slice-aggregate-pair-with-reverse-depths-2
+    (λ c. search needs)  -- slice-aggregate-pair-with-reverse-depths
+    (λ c. search needs)  -- slice-aggregate-pair-with-reverse-depths-2
     pair-with-reverse-depths-requires
-    slice-aggregate-keep
-    slice-aggregate-keep-2
-    slice-aggregate-keep-3
+    (λ c. search needs)  -- slice-aggregate-keep
+    (λ c. search needs)  -- slice-aggregate-keep-2
+    (λ c. search needs)  -- slice-aggregate-keep-3
     keep-requires
-    slice-aggregate-run-sites
-    slice-aggregate-run-sites-2
-    slice-aggregate-run-sites-3
+    (λ c. search needs)  -- slice-aggregate-run-sites
+    (λ c. search needs)  -- slice-aggregate-run-sites-2
+    (λ c. search needs)  -- slice-aggregate-run-sites-3
     run-sites-requires
     slice-reshare-prefix-copy-table
     slice-aggregate-copy-table
     copy-table-requires
-    same-length
-    same-length-2
-    same-length-3
+    (λ c. search needs)  -- same-length
+    (λ c. search needs)  -- same-length-2
+    (λ c. search needs)  -- same-length-3
     returns)

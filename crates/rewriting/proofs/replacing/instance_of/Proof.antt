@@ -5,12 +5,6 @@ use Rattle.rewriting.proofs.ReplacementLaws.{instance-low, instance-hig
 use Rattle.rewriting.proofs.replacing.instance_of.Statement.{statement}
 use Rattle.rewriting.proofs.replacing.instance_of.Tie as tie
 
-mul-result : tie.Need-mul-result
-mul-result c = search needs
-
-element-copy-out-result : tie.Need-element-copy-out-result
-element-copy-out-result c = search needs
-
 sub-result : tie.Need-sub-result
 sub-result c = let s = c .before .before in s .pre .1 .1 (s .args .r) (c .before .if1 .taken)
 
@@ -19,9 +13,6 @@ returns c =
     let s = c .before .before in
     sym (instance-low (s .args .base) (s .args .gate) (s .args .b .now) (s .args .r) (c .before .if1 .taken))
 
-add-result : tie.Need-add-result
-add-result c = search needs
-
 returns-2 : tie.Need-returns-2
 returns-2 c =
     let s = c .before in
@@ -29,4 +20,11 @@ returns-2 c =
 
 pub instance-of-spec : {M : Type 1} → statement M
 instance-of-spec =
-    tie.close (tie.spec mul-result element-copy-out-result sub-result returns add-result returns-2)
+    tie.close
+    (tie.spec
+    (λ c. search needs)  -- mul-result
+    (λ c. search needs)  -- element-copy-out-result
+    sub-result
+    returns
+    (λ c. search needs)  -- add-result
+    returns-2)

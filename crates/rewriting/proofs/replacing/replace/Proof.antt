@@ -30,26 +30,14 @@ ordered c =
 bound : (c : tie.After-right-side) → AllBound (c .right-side .result .base) (c .before .before .before .before .before .args .b .now)
 bound c r h = c .before .before .before .before .before .pre .1 .1 .1 .0 r (omega (arith, h, c .right-side .ensures .0)) .0
 
-gates-from-requires : tie.Need-gates-from-requires
-gates-from-requires c κs = search needs
-
-right-side-requires : tie.Need-right-side-requires
-right-side-requires c κs = search needs
-
 instance-of-requires : tie.Need-instance-of-requires
 instance-of-requires c κs =
     let s = c .before .before .before .before .before in
     let f = fits (c) in
     ((f .base-limit, omega (arith, f, closing-below (s .args .t .now) (s .args .p) (s .pre .1 .0), c .right-side .ensures)), (omega (arith, f), bound (c)))
 
-shared-slice-read-gates : tie.Need-shared-slice-read-gates
-shared-slice-read-gates c = search needs
-
 sub-write-front : tie.Need-sub-write-front
 sub-write-front c = omega (arith, fits (c .before .before))
-
-add-write-front : tie.Need-add-write-front
-add-write-front c = search needs
 
 write-front-requires : tie.Need-write-front-requires
 write-front-requires c κs =
@@ -57,17 +45,8 @@ write-front-requires c κs =
     let from = c .before .before .before .before .before .gates-from .ensures in
     (s .pre .0, (from, omega (arith, from, fits (c .before .before .before .before), s .pre .1 .1 .1 .1 .1)))
 
-shared-slice-read-before : tie.Need-shared-slice-read-before
-shared-slice-read-before c = search needs
-
-add-before : tie.Need-add-before
-add-before c = search needs
-
 sub-before : tie.Need-sub-before
 sub-before c = omega (arith, fits (c .before .before .before .before .before .before .before .before))
-
-cast-before : tie.Need-cast-before
-cast-before c = search needs
 
 write-gates-requires : tie.Need-write-gates-requires
 write-gates-requires c κs =
@@ -83,9 +62,6 @@ write-rights-requires c κs =
     let f = fits s in
     let w = c .before .before .before .write-gates in
     ((f .base-limit, f .count-limit), (omega (arith, s .right-side .ensures, p .1 .0 .sized), (ordered s, (omega (arith, f), (bound s, omega (arith, f, p .1 .1 .1 .1 .1, c .before .before .before .before .before .before .before .before .write-front .kept .1 .1 .1 .0, c .before .before .before .before .before .before .before .before .before .before .before .before .before .before .gates-from .ensures, w .ensures .1, w .kept .1 .1 .1 .1 .1 .0))))))
-
-add-write-gates : tie.Need-add-write-gates
-add-write-gates c = search needs
 
 cast-write-gates : tie.Need-cast-write-gates
 cast-write-gates c = omega (arith, fits (c .before .before .before .before .before .before .before .before .before .before .before .before .before .before .before .before))
@@ -107,9 +83,6 @@ write-closings-requires c κs =
     let r = c .before .before .before .before .before .before .before .write-rights in
     let b = c .before .before .before .write-gates2 in
     (p .0, (f .count-limit, omega (arith, f, p .1 .1 .1 .1 .1, c .before .before .before .before .before .before .before .before .before .before .before .before .before .before .before .before .write-front .kept .1 .1 .1 .0, c .before .before .before .before .before .before .before .before .before .before .before .before .before .before .before .before .before .before .before .before .before .before .gates-from .ensures, w .ensures .1, w .kept .1 .1 .1 .1 .1 .0, r .ensures .1, r .kept .1 .1 .1 .1 .0, b .ensures .1, b .kept .1 .1 .1 .1 .1 .0)))
-
-same-length : tie.Need-same-length
-same-length c = search needs
 
 returns : tie.Need-returns
 returns c =
@@ -133,22 +106,22 @@ pub replace-spec : {M : Type 1} → statement M
 replace-spec =
     tie.close
     (tie.spec
-    gates-from-requires
-    right-side-requires
+    (λ c κs. search needs)  -- gates-from-requires
+    (λ c κs. search needs)  -- right-side-requires
     instance-of-requires
-    shared-slice-read-gates
+    (λ c. search needs)  -- shared-slice-read-gates
     sub-write-front
-    add-write-front
+    (λ c. search needs)  -- add-write-front
     write-front-requires
-    shared-slice-read-before
-    add-before
+    (λ c. search needs)  -- shared-slice-read-before
+    (λ c. search needs)  -- add-before
     sub-before
-    cast-before
+    (λ c. search needs)  -- cast-before
     write-gates-requires
     write-rights-requires
-    add-write-gates
+    (λ c. search needs)  -- add-write-gates
     cast-write-gates
     write-gates-requires-2
     write-closings-requires
-    same-length
+    (λ c. search needs)  -- same-length
     returns)

@@ -18,18 +18,6 @@ copy-over-requires c κs =
     let l = length-take-le (s .args .lines) (s .args .c .now) (omega (arith, s .pre .1 .0, s .pre .0 .sized)) in
     omega (arith, l, s .pre .1 .1)
 
-shared-slice-read-write-row : tie.Need-shared-slice-read-write-row
-shared-slice-read-write-row c = search needs
-
-shared-slice-read-write-row-2 : tie.Need-shared-slice-read-write-row-2
-shared-slice-read-write-row-2 c = search needs
-
-write-row-requires : tie.Need-write-row-requires
-write-row-requires c κs = search needs
-
-same-length : tie.Need-same-length
-same-length c = search needs
-
 returns : tie.Need-returns
 returns c =
     let s = c .before .before .before .before .before .before .before .before .before .before .before .before .before in
@@ -42,8 +30,8 @@ write-front-spec =
     (tie.spec
     slice-aggregate-copy-over
     copy-over-requires
-    shared-slice-read-write-row
-    shared-slice-read-write-row-2
-    write-row-requires
-    same-length
+    (λ c. search needs)  -- shared-slice-read-write-row
+    (λ c. search needs)  -- shared-slice-read-write-row-2
+    (λ c κs. search needs)  -- write-row-requires
+    (λ c. search needs)  -- same-length
     returns)

@@ -18,40 +18,10 @@ Inv-loop c lines from to s out₀ at n i₀ out i = (i ≤ n) × (n ≡ to - fro
 abbrev μ-loop : tie.MeasureT-loop
 μ-loop c lines from to s out₀ at n i₀ out i = n - i
 
-sub-n : tie.Need-sub-n Inv-loop μ-loop
-sub-n c = search needs
-
 loop-holds : tie.Need-loop-holds Inv-loop μ-loop
 loop-holds c =
     let a = c .before .before .args in
     (search needs, refl, lines-none (renameGate (renumber (a .s .gate) (a .s .closing) (a .s .count))) (slice (a .from) (a .to) (gateLines (a .c .now))) (a .out .now) (a .at))
-
-add-gate-line : tie.Need-add-gate-line Inv-loop μ-loop
-add-gate-line c = search needs
-
-gate-line-requires : tie.Need-gate-line-requires Inv-loop μ-loop
-gate-line-requires c κs = search needs
-
-renumber-requires : tie.Need-renumber-requires Inv-loop μ-loop
-renumber-requires c κs = search needs
-
-renumber-requires-2 : tie.Need-renumber-requires-2 Inv-loop μ-loop
-renumber-requires-2 c κs = search needs
-
-mul-write-row : tie.Need-mul-write-row Inv-loop μ-loop
-mul-write-row c = search needs
-
-add-write-row : tie.Need-add-write-row Inv-loop μ-loop
-add-write-row c = search needs
-
-write-row-requires : tie.Need-write-row-requires Inv-loop μ-loop
-write-row-requires c κs = search needs
-
-add-i : tie.Need-add-i Inv-loop μ-loop
-add-i c = search needs
-
-loop-less : tie.Need-loop-less Inv-loop μ-loop
-loop-less c = search needs
 
 loop-again : tie.Need-loop-again Inv-loop μ-loop
 loop-again c =
@@ -67,15 +37,6 @@ loop-again c =
           _ (c .before .before .write-row .ensures),
     )
 
-mul-result : tie.Need-mul-result Inv-loop μ-loop
-mul-result c = search needs
-
-add-result : tie.Need-add-result Inv-loop μ-loop
-add-result c = search needs
-
-same-length : tie.Need-same-length Inv-loop μ-loop
-same-length c = search needs
-
 returns : tie.Need-returns Inv-loop μ-loop
 returns c =
     let l = c .before .loop in
@@ -83,4 +44,24 @@ returns c =
     (lines-all _ _ _ _ (l .out) (l .i) (l .inv .2) (omega (arith, part-length (a .c .now) (a .from) (a .to) (c .before .before .before .before .pre .1 .1 .0 .1), c .loop-test .left, l .inv .1)), refl)
 
 pub write-gates-spec : {M : Type 1} → statement M
-write-gates-spec = tie.close (tie.spec Inv-loop μ-loop sub-n loop-holds add-gate-line gate-line-requires renumber-requires renumber-requires-2 mul-write-row add-write-row write-row-requires add-i loop-less loop-again mul-result add-result same-length returns)
+write-gates-spec =
+    tie.close
+    (tie.spec
+    Inv-loop
+    μ-loop
+    (λ c. search needs)  -- sub-n
+    loop-holds
+    (λ c. search needs)  -- add-gate-line
+    (λ c κs. search needs)  -- gate-line-requires
+    (λ c κs. search needs)  -- renumber-requires
+    (λ c κs. search needs)  -- renumber-requires-2
+    (λ c. search needs)  -- mul-write-row
+    (λ c. search needs)  -- add-write-row
+    (λ c κs. search needs)  -- write-row-requires
+    (λ c. search needs)  -- add-i
+    (λ c. search needs)  -- loop-less
+    loop-again
+    (λ c. search needs)  -- mul-result
+    (λ c. search needs)  -- add-result
+    (λ c. search needs)  -- same-length
+    returns)

@@ -19,28 +19,10 @@ Inv-loop t side gate b out₀ at n i₀ out i = (i ≤ n) × LinesTo (renameGate
 abbrev μ-loop : tie.MeasureT-loop
 μ-loop t side gate b out₀ at n i₀ out i = n - i
 
-cast-n : tie.Need-cast-n Inv-loop μ-loop
-cast-n c = search needs
-
 loop-holds : tie.Need-loop-holds Inv-loop μ-loop
 loop-holds c =
     let a = c .before .before .before .args in
     (search needs, lines-none (renameGate (instanceOf (a .side .base) (a .gate) (a .b .now))) (linesOf (a .side .count) (drop (a .side .from) (a .t .now))) (a .out .now) (a .at))
-
-mul-q : tie.Need-mul-q Inv-loop μ-loop
-mul-q c = search needs
-
-add-q : tie.Need-add-q Inv-loop μ-loop
-add-q c = search needs
-
-add-instance-of : tie.Need-add-instance-of Inv-loop μ-loop
-add-instance-of c = search needs
-
-mul-instance-of : tie.Need-mul-instance-of Inv-loop μ-loop
-mul-instance-of c = search needs
-
-shared-slice-read-instance-of : tie.Need-shared-slice-read-instance-of Inv-loop μ-loop
-shared-slice-read-instance-of c = search needs
 
 instance-of-requires : tie.Need-instance-of-requires Inv-loop μ-loop
 instance-of-requires c κs =
@@ -50,15 +32,6 @@ instance-of-requires c κs =
     let o = operands-at (a .side .count) (a .side .from) (a .t .now) (a .side .base) (s .pre .1 .1 .0) i (c .before .before .loop-test .taken) in
     ((s .pre .0 .0, omega (arith, o .0, c .before .before .loop-test .taken, s .pre .0 .1)), (s .pre .1 .1 .1 .0, s .pre .1 .1 .1 .1 .0))
 
-add-instance-of-2 : tie.Need-add-instance-of-2 Inv-loop μ-loop
-add-instance-of-2 c = search needs
-
-mul-instance-of-2 : tie.Need-mul-instance-of-2 Inv-loop μ-loop
-mul-instance-of-2 c = search needs
-
-shared-slice-read-instance-of-2 : tie.Need-shared-slice-read-instance-of-2 Inv-loop μ-loop
-shared-slice-read-instance-of-2 c = search needs
-
 instance-of-requires-2 : tie.Need-instance-of-requires-2 Inv-loop μ-loop
 instance-of-requires-2 c κs =
     let s = c .before .before .before .before .before .before .before .before .before in
@@ -66,27 +39,6 @@ instance-of-requires-2 c κs =
     let i = c .before .before .before .before .before .loop .i in
     let o = operands-at (a .side .count) (a .side .from) (a .t .now) (a .side .base) (s .pre .1 .1 .0) i (c .before .before .before .before .loop-test .taken) in
     ((s .pre .0 .0, omega (arith, o .1, c .before .before .before .before .loop-test .taken, s .pre .0 .1)), (s .pre .1 .1 .1 .0, s .pre .1 .1 .1 .1 .0))
-
-mul-write-row : tie.Need-mul-write-row Inv-loop μ-loop
-mul-write-row c = search needs
-
-add-write-row : tie.Need-add-write-row Inv-loop μ-loop
-add-write-row c = search needs
-
-mul-write-row-2 : tie.Need-mul-write-row-2 Inv-loop μ-loop
-mul-write-row-2 c = search needs
-
-shared-slice-read-write-row : tie.Need-shared-slice-read-write-row Inv-loop μ-loop
-shared-slice-read-write-row c = search needs
-
-write-row-requires : tie.Need-write-row-requires Inv-loop μ-loop
-write-row-requires c κs = search needs
-
-add-i : tie.Need-add-i Inv-loop μ-loop
-add-i c = search needs
-
-loop-less : tie.Need-loop-less Inv-loop μ-loop
-loop-less c = search needs
 
 loop-again : tie.Need-loop-again Inv-loop μ-loop
 loop-again c =
@@ -97,15 +49,6 @@ loop-again c =
           (step-from (a .side .from) (a .side .count) (a .t .now) (l .i) (c .before .before .before .before .before .before .before .before .before .before .loop-test .taken))
           _ _ _ refl (c .before .before .before .before .before .before .before .instance-of .ensures) (c .before .before .before .before .before .instance-of2 .ensures) _ (c .before .before .write-row .ensures),
     )
-
-mul-result : tie.Need-mul-result Inv-loop μ-loop
-mul-result c = search needs
-
-add-result : tie.Need-add-result Inv-loop μ-loop
-add-result c = search needs
-
-same-length : tie.Need-same-length Inv-loop μ-loop
-same-length c = search needs
 
 returns : tie.Need-returns Inv-loop μ-loop
 returns c =
@@ -119,27 +62,27 @@ write-rights-spec =
     (tie.spec
     Inv-loop
     μ-loop
-    cast-n
+    (λ c. search needs)  -- cast-n
     loop-holds
-    mul-q
-    add-q
-    add-instance-of
-    mul-instance-of
-    shared-slice-read-instance-of
+    (λ c. search needs)  -- mul-q
+    (λ c. search needs)  -- add-q
+    (λ c. search needs)  -- add-instance-of
+    (λ c. search needs)  -- mul-instance-of
+    (λ c. search needs)  -- shared-slice-read-instance-of
     instance-of-requires
-    add-instance-of-2
-    mul-instance-of-2
-    shared-slice-read-instance-of-2
+    (λ c. search needs)  -- add-instance-of-2
+    (λ c. search needs)  -- mul-instance-of-2
+    (λ c. search needs)  -- shared-slice-read-instance-of-2
     instance-of-requires-2
-    mul-write-row
-    add-write-row
-    mul-write-row-2
-    shared-slice-read-write-row
-    write-row-requires
-    add-i
-    loop-less
+    (λ c. search needs)  -- mul-write-row
+    (λ c. search needs)  -- add-write-row
+    (λ c. search needs)  -- mul-write-row-2
+    (λ c. search needs)  -- shared-slice-read-write-row
+    (λ c κs. search needs)  -- write-row-requires
+    (λ c. search needs)  -- add-i
+    (λ c. search needs)  -- loop-less
     loop-again
-    mul-result
-    add-result
-    same-length
+    (λ c. search needs)  -- mul-result
+    (λ c. search needs)  -- add-result
+    (λ c. search needs)  -- same-length
     returns)

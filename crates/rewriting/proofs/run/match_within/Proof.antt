@@ -33,9 +33,6 @@ none c =
     let small : c .before .match-judged .result ≤ noMatch = rw (given (c .before)) (judged-match-small (circuit (c .before)) (rule (c .before)) (s .args .judged) (s .args .gate) (s .args .mask) (s .pre .1 .0)) in
     ⊎-elim (λ w. omega (arith, w)) (λ w. omega (arith, w, small)) (c .match .came)
 
-match-judged-requires : tie.Need-match-judged-requires
-match-judged-requires c κs = search needs
-
 size-verdict-requires : tie.Need-size-verdict-requires
 size-verdict-requires c κs =
     let s = c .before .before .before .before .before in
@@ -55,4 +52,10 @@ returns-2 c =
     )
 
 pub match-within-spec : {M : Type 1} → statement M
-match-within-spec = tie.close (tie.spec match-judged-requires size-verdict-requires returns returns-2)
+match-within-spec =
+    tie.close
+    (tie.spec
+    (λ c κs. search needs)  -- match-judged-requires
+    size-verdict-requires
+    returns
+    returns-2)

@@ -36,53 +36,11 @@ read-site : (rules sites : List ℕ) (s : State) (i from : ℕ) → from ≡ sit
 read-site rules sites s i from e x h =
     h ∙ ap (λ f. step rules s (record { rule = getD sites (f + 3 * i) 0; gate = getD sites (f + 3 * i + 1) 0; mask = getD sites (f + 3 * i + 2) 0 })) e
 
-shared-slice-read-count : tie.Need-shared-slice-read-count Inv-loop μ-loop
-shared-slice-read-count c = search needs
-
-cast-count : tie.Need-cast-count Inv-loop μ-loop
-cast-count c = search needs
-
-sites-from-requires : tie.Need-sites-from-requires Inv-loop μ-loop
-sites-from-requires c κs = search needs
-
 loop-holds : tie.Need-loop-holds Inv-loop μ-loop
 loop-holds c =
     let s = c .before .before .before .before .before .before .before .before .before in
     let a = s .args in
     (search needs, refl, search needs, s .pre .1 .1 .1 .1 .0, sym (after-none (a .rules .now) (a .sites .now) (stateOf (a .start) (a .work .now))), written-none 0 _ _, remembered-none (a .rules .now) _ refl, refl, refl, refl, s .pre .1 .1 .1 .1 .1 .0)
-
-mul-at : tie.Need-mul-at Inv-loop μ-loop
-mul-at c = search needs
-
-add-at : tie.Need-add-at Inv-loop μ-loop
-add-at c = search needs
-
-mul-step : tie.Need-mul-step Inv-loop μ-loop
-mul-step c = search needs
-
-shared-slice-read-step : tie.Need-shared-slice-read-step Inv-loop μ-loop
-shared-slice-read-step c = search needs
-
-add-step : tie.Need-add-step Inv-loop μ-loop
-add-step c = search needs
-
-mul-step-2 : tie.Need-mul-step-2 Inv-loop μ-loop
-mul-step-2 c = search needs
-
-shared-slice-read-step-2 : tie.Need-shared-slice-read-step-2 Inv-loop μ-loop
-shared-slice-read-step-2 c = search needs
-
-add-step-2 : tie.Need-add-step-2 Inv-loop μ-loop
-add-step-2 c = search needs
-
-mul-step-3 : tie.Need-mul-step-3 Inv-loop μ-loop
-mul-step-3 c = search needs
-
-shared-slice-read-step-3 : tie.Need-shared-slice-read-step-3 Inv-loop μ-loop
-shared-slice-read-step-3 c = search needs
-
-slice-aggregate-step : tie.Need-slice-aggregate-step Inv-loop μ-loop
-slice-aggregate-step c = search needs
 
 step-requires : tie.Need-step-requires Inv-loop μ-loop
 step-requires c κs =
@@ -111,9 +69,6 @@ slice-write-verdicts c =
 
 add-i : tie.Need-add-i Inv-loop μ-loop
 add-i c = omega (arith, c .before .before .before .before .before .before .before .before .before .before .before .before .before .before .before .before .before .before .before .before .before .loop-test .taken, c .before .before .before .before .before .before .before .before .before .before .before .before .before .before .before .before .before .before .before .before .before .before .before .before .before .before .before .before .before .before .before .before .pre .1 .0)
-
-loop-less : tie.Need-loop-less Inv-loop μ-loop
-loop-less c = search needs
 
 loop-again : tie.Need-loop-again Inv-loop μ-loop
 loop-again c =
@@ -180,26 +135,26 @@ run-sites-spec =
     (tie.spec
     Inv-loop
     μ-loop
-    shared-slice-read-count
-    cast-count
-    sites-from-requires
+    (λ c. search needs)  -- shared-slice-read-count
+    (λ c. search needs)  -- cast-count
+    (λ c κs. search needs)  -- sites-from-requires
     loop-holds
-    mul-at
-    add-at
-    mul-step
-    shared-slice-read-step
-    add-step
-    mul-step-2
-    shared-slice-read-step-2
-    add-step-2
-    mul-step-3
-    shared-slice-read-step-3
-    slice-aggregate-step
+    (λ c. search needs)  -- mul-at
+    (λ c. search needs)  -- add-at
+    (λ c. search needs)  -- mul-step
+    (λ c. search needs)  -- shared-slice-read-step
+    (λ c. search needs)  -- add-step
+    (λ c. search needs)  -- mul-step-2
+    (λ c. search needs)  -- shared-slice-read-step-2
+    (λ c. search needs)  -- add-step-2
+    (λ c. search needs)  -- mul-step-3
+    (λ c. search needs)  -- shared-slice-read-step-3
+    (λ c. search needs)  -- slice-aggregate-step
     step-requires
     cast-verdicts
     slice-write-verdicts
     add-i
-    loop-less
+    (λ c. search needs)  -- loop-less
     loop-again
     same-length
     same-length-2

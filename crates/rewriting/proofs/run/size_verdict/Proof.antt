@@ -5,21 +5,6 @@ use borrow.Author.Needs.{needs}
 use Rattle.rewriting.proofs.run.size_verdict.Statement.{statement}
 use Rattle.rewriting.proofs.run.size_verdict.Tie as tie
 
-add-if1 : tie.Need-add-if1
-add-if1 c = search needs
-
-shared-slice-read-if1 : tie.Need-shared-slice-read-if1
-shared-slice-read-if1 c = search needs
-
-add-if1-2 : tie.Need-add-if1-2
-add-if1-2 c = search needs
-
-mul-if1 : tie.Need-mul-if1
-mul-if1 c = search needs
-
-shared-slice-read-if1-2 : tie.Need-shared-slice-read-if1-2
-shared-slice-read-if1-2 c = search needs
-
 add-if1-3 : tie.Need-add-if1-3
 add-if1-3 c = omega (arith, c .before .before .pre .0 .sized, c .before .before .pre .1 .sized)
 
@@ -30,4 +15,14 @@ returns-2 : tie.Need-returns-2
 returns-2 c = size-within (c .before .before .before .args .table .now) (c .before .before .before .args .rules .now) (c .before .before .before .args .p) (c .if1 .left)
 
 pub size-verdict-spec : {M : Type 1} → statement M
-size-verdict-spec = tie.close (tie.spec add-if1 shared-slice-read-if1 add-if1-2 mul-if1 shared-slice-read-if1-2 add-if1-3 returns returns-2)
+size-verdict-spec =
+    tie.close
+    (tie.spec
+    (λ c. search needs)  -- add-if1
+    (λ c. search needs)  -- shared-slice-read-if1
+    (λ c. search needs)  -- add-if1-2
+    (λ c. search needs)  -- mul-if1
+    (λ c. search needs)  -- shared-slice-read-if1-2
+    add-if1-3
+    returns
+    returns-2)

@@ -7,9 +7,6 @@ use Rattle.rules.proofs.UseWordLaws.{shift-one}
 use Rattle.rules.proofs.checking.mark.Statement.{statement}
 use Rattle.rules.proofs.checking.mark.Tie as tie
 
-shl-result : tie.Need-shl-result
-shl-result c = search needs
-
 returns : tie.Need-returns
 returns c = shift-one _ (c .if1 .taken) ∙ sym (first-true _ _ (lt-ltb _ _ (c .if1 .taken)))
 
@@ -17,4 +14,9 @@ returns-2 : tie.Need-returns-2
 returns-2 c = sym (first-false _ _ (le-ltb _ _ (c .if1 .left)))
 
 pub mark-spec : {M : Type 1} → statement M
-mark-spec = tie.close (tie.spec shl-result returns returns-2)
+mark-spec =
+    tie.close
+    (tie.spec
+    (λ c. search needs)  -- shl-result
+    returns
+    returns-2)

@@ -21,45 +21,18 @@ past3 : (c : tie.Else3) (r : Refusal) → let a = c .before .before .before .bef
     r ≡ firstFound (drop 3 ks) → r ≡ firstFound ks
 past3 c r e = past2 (c .before .before) r (found-later _ _ _ r _ (c .before .refusal .ensures) (c .if3 .left) e)
 
-is-partial-requires : tie.Need-is-partial-requires
-is-partial-requires c κs = search needs
-
-refuse-requires : tie.Need-refuse-requires
-refuse-requires c κs = search needs
-
 returns : tie.Need-returns
 returns c = applies-here _ _ _ _ _ (sym (c .before .before .is-partial .ensures) ∙ c .before .if1 .taken) (c .refuse .ensures)
-
-is-partial-requires-2 : tie.Need-is-partial-requires-2
-is-partial-requires-2 c κs = search needs
-
-refuse-requires-2 : tie.Need-refuse-requires-2
-refuse-requires-2 c κs = search needs
 
 returns-2 : tie.Need-returns-2
 returns-2 c =
     past1 (c .before .before .before) _ (applies-here _ _ _ _ _ (sym (c .before .before .is-partial2 .ensures) ∙ c .before .if2 .taken) (c .refuse2 .ensures))
 
-refusal-requires : tie.Need-refusal-requires
-refusal-requires c κs = search needs
-
-refuse-requires-3 : tie.Need-refuse-requires-3
-refuse-requires-3 c κs = search needs
-
 returns-3 : tie.Need-returns-3
 returns-3 c = past2 (c .before .before .before) _ (found-here _ _ _ _ _ (c .before .before .refusal .ensures) (c .before .if3 .taken) (c .refuse3 .ensures))
 
-rules-refusal-requires : tie.Need-rules-refusal-requires
-rules-refusal-requires c κs = search needs
-
-refuse-requires-4 : tie.Need-refuse-requires-4
-refuse-requires-4 c κs = search needs
-
 returns-4 : tie.Need-returns-4
 returns-4 c = past3 (c .before .before .before) _ (found-here _ _ _ _ _ (c .before .before .rules-refusal .ensures) (c .before .if4 .taken) (c .refuse4 .ensures))
-
-refuse-requires-5 : tie.Need-refuse-requires-5
-refuse-requires-5 c κs = search needs
 
 returns-5 : tie.Need-returns-5
 returns-5 c =
@@ -69,17 +42,17 @@ pub match-refusal-spec : {M : Type 1} → statement M
 match-refusal-spec =
     tie.close
     (tie.spec
-    is-partial-requires
-    refuse-requires
+    (λ c κs. search needs)  -- is-partial-requires
+    (λ c κs. search needs)  -- refuse-requires
     returns
-    is-partial-requires-2
-    refuse-requires-2
+    (λ c κs. search needs)  -- is-partial-requires-2
+    (λ c κs. search needs)  -- refuse-requires-2
     returns-2
-    refusal-requires
-    refuse-requires-3
+    (λ c κs. search needs)  -- refusal-requires
+    (λ c κs. search needs)  -- refuse-requires-3
     returns-3
-    rules-refusal-requires
-    refuse-requires-4
+    (λ c κs. search needs)  -- rules-refusal-requires
+    (λ c κs. search needs)  -- refuse-requires-4
     returns-4
-    refuse-requires-5
+    (λ c κs. search needs)  -- refuse-requires-5
     returns-5)

@@ -8,9 +8,6 @@ use Rattle.rules.proofs.UseWordLaws.{shift-one}
 use Rattle.rules.proofs.checking.owed.Statement.{statement}
 use Rattle.rules.proofs.checking.owed.Tie as tie
 
-shl-result : tie.Need-shl-result
-shl-result c = search needs
-
 sub-result : tie.Need-sub-result
 sub-result c = rw (shift-one (c .args .root) (c .pre .1)) (pow-mono (c .pre .0))
 
@@ -18,4 +15,9 @@ returns : tie.Need-returns
 returns c = ap (λ x. x - 2 ^ constants) (shift-one (c .args .root) (c .pre .1))
 
 pub owed-spec : {M : Type 1} → statement M
-owed-spec = tie.close (tie.spec shl-result sub-result returns)
+owed-spec =
+    tie.close
+    (tie.spec
+    (λ c. search needs)  -- shl-result
+    sub-result
+    returns)

@@ -9,14 +9,8 @@ use Rattle.rules.specs.SiteTable.{siteCount}
 use Rattle.rules.proofs.checking.sites_as_head_says.Statement.{statement}
 use Rattle.rules.proofs.checking.sites_as_head_says.Tie as tie
 
-shared-slice-read-sites : tie.Need-shared-slice-read-sites
-shared-slice-read-sites c = search needs
-
 cast-sites : tie.Need-cast-sites
 cast-sites c = omega (arith, c .shared-slice-known2 .given 0)
-
-sites-from-requires : tie.Need-sites-from-requires
-sites-from-requires c κs = search needs
 
 mul-result : tie.Need-mul-result
 mul-result c = omega (arith, c .before .shared-slice-known2 .given 0)
@@ -32,4 +26,10 @@ returns c =
 pub sites-as-head-says-spec : {M : Type 1} → statement M
 sites-as-head-says-spec =
     tie.close
-    (tie.spec shared-slice-read-sites cast-sites sites-from-requires mul-result add-result returns)
+    (tie.spec
+    (λ c. search needs)  -- shared-slice-read-sites
+    cast-sites
+    (λ c κs. search needs)  -- sites-from-requires
+    mul-result
+    add-result
+    returns)

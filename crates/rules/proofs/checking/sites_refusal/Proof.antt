@@ -17,9 +17,6 @@ whole c = sym (c .before .is-partial .ensures) ∙ c .if1 .left
 head : (c : tie.Else2) → sitesHeadInLimits (c .before .before .before .before .before .args .t .now) ≡ true
 head c = sym (c .before .sites-head-in-limits .ensures) ∙ not-false _ (c .if2 .left)
 
-is-partial-requires : tie.Need-is-partial-requires
-is-partial-requires c κs = search needs
-
 returns : tie.Need-returns
 returns c = sites-partial _ (sym (c .before .is-partial .ensures) ∙ c .if1 .taken)
 
@@ -46,7 +43,7 @@ pub sites-refusal-spec : {M : Type 1} → statement M
 sites-refusal-spec =
     tie.close
     (tie.spec
-    is-partial-requires
+    (λ c κs. search needs)  -- is-partial-requires
     returns
     sites-head-in-limits-requires
     returns-2

@@ -23,51 +23,6 @@ loop-holds c =
     let s = c .before .args in
     (search needs, tests-none hasGateKind (s .first) (s .q) (s .n) (s .t .now) (s .earlier .kinds), tests-none operandsBelow (s .first) (s .q) (s .n) (s .t .now) (s .earlier .references), marks-none (linesOf (s .n) (drop (s .q) (s .t .now))))
 
-mul-p : tie.Need-mul-p Inv-loop μ-loop
-mul-p c = search needs
-
-add-p : tie.Need-add-p Inv-loop μ-loop
-add-p c = search needs
-
-cast-test-gate : tie.Need-cast-test-gate Inv-loop μ-loop
-cast-test-gate c = search needs
-
-add-test-gate : tie.Need-add-test-gate Inv-loop μ-loop
-add-test-gate c = search needs
-
-test-gate-requires : tie.Need-test-gate-requires Inv-loop μ-loop
-test-gate-requires c κs = search needs
-
-add-mark : tie.Need-add-mark Inv-loop μ-loop
-add-mark c = search needs
-
-mul-mark : tie.Need-mul-mark Inv-loop μ-loop
-mul-mark c = search needs
-
-shared-slice-read-mark : tie.Need-shared-slice-read-mark Inv-loop μ-loop
-shared-slice-read-mark c = search needs
-
-mark-requires : tie.Need-mark-requires Inv-loop μ-loop
-mark-requires c κs = search needs
-
-add-mark-2 : tie.Need-add-mark-2 Inv-loop μ-loop
-add-mark-2 c = search needs
-
-mul-mark-2 : tie.Need-mul-mark-2 Inv-loop μ-loop
-mul-mark-2 c = search needs
-
-shared-slice-read-mark-2 : tie.Need-shared-slice-read-mark-2 Inv-loop μ-loop
-shared-slice-read-mark-2 c = search needs
-
-mark-requires-2 : tie.Need-mark-requires-2 Inv-loop μ-loop
-mark-requires-2 c κs = search needs
-
-add-i : tie.Need-add-i Inv-loop μ-loop
-add-i c = search needs
-
-loop-less : tie.Need-loop-less Inv-loop μ-loop
-loop-less c = search needs
-
 loop-again : tie.Need-loop-again Inv-loop μ-loop
 loop-again c =
     let s = c .before .before .before .before .before .before .before .before .args in
@@ -100,20 +55,20 @@ test-lefts-spec =
     Inv-loop
     μ-loop
     loop-holds
-    mul-p
-    add-p
-    cast-test-gate
-    add-test-gate
-    test-gate-requires
-    add-mark
-    mul-mark
-    shared-slice-read-mark
-    mark-requires
-    add-mark-2
-    mul-mark-2
-    shared-slice-read-mark-2
-    mark-requires-2
-    add-i
-    loop-less
+    (λ c. search needs)  -- mul-p
+    (λ c. search needs)  -- add-p
+    (λ c. search needs)  -- cast-test-gate
+    (λ c. search needs)  -- add-test-gate
+    (λ c κs. search needs)  -- test-gate-requires
+    (λ c. search needs)  -- add-mark
+    (λ c. search needs)  -- mul-mark
+    (λ c. search needs)  -- shared-slice-read-mark
+    (λ c κs. search needs)  -- mark-requires
+    (λ c. search needs)  -- add-mark-2
+    (λ c. search needs)  -- mul-mark-2
+    (λ c. search needs)  -- shared-slice-read-mark-2
+    (λ c κs. search needs)  -- mark-requires-2
+    (λ c. search needs)  -- add-i
+    (λ c. search needs)  -- loop-less
     loop-again
     returns)

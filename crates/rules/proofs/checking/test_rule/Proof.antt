@@ -7,69 +7,6 @@ use Rattle.rules.proofs.UseWordLaws.{uses-tested}
 use Rattle.rules.proofs.checking.test_rule.Statement.{statement}
 use Rattle.rules.proofs.checking.test_rule.Tie as tie
 
-mul-first : tie.Need-mul-first
-mul-first c = search needs
-
-shared-slice-read-first : tie.Need-shared-slice-read-first
-shared-slice-read-first c = search needs
-
-add-first : tie.Need-add-first
-add-first c = search needs
-
-add-lefts : tie.Need-add-lefts
-add-lefts c = search needs
-
-mul-lefts : tie.Need-mul-lefts
-mul-lefts c = search needs
-
-shared-slice-read-lefts : tie.Need-shared-slice-read-lefts
-shared-slice-read-lefts c = search needs
-
-add-rights : tie.Need-add-rights
-add-rights c = search needs
-
-mul-rights : tie.Need-mul-rights
-mul-rights c = search needs
-
-shared-slice-read-rights : tie.Need-shared-slice-read-rights
-shared-slice-read-rights c = search needs
-
-left-from-requires : tie.Need-left-from-requires
-left-from-requires c κs = search needs
-
-cast-test-lefts : tie.Need-cast-test-lefts
-cast-test-lefts c = search needs
-
-test-lefts-requires : tie.Need-test-lefts-requires
-test-lefts-requires c κs = search needs
-
-right-from-requires : tie.Need-right-from-requires
-right-from-requires c κs = search needs
-
-cast-test-gates : tie.Need-cast-test-gates
-cast-test-gates c = search needs
-
-test-gates-requires : tie.Need-test-gates-requires
-test-gates-requires c κs = search needs
-
-closing-from-requires : tie.Need-closing-from-requires
-closing-from-requires c κs = search needs
-
-add-test-closing : tie.Need-add-test-closing
-add-test-closing c = search needs
-
-test-closing-requires : tie.Need-test-closing-requires
-test-closing-requires c κs = search needs
-
-add-owed : tie.Need-add-owed
-add-owed c = search needs
-
-sub-owed : tie.Need-sub-owed
-sub-owed c = search needs
-
-owed-requires : tie.Need-owed-requires
-owed-requires c κs = search needs
-
 returns : tie.Need-returns
 returns c =
     let closing = c .before .before .before in
@@ -99,25 +36,25 @@ pub test-rule-spec : {M : Type 1} → statement M
 test-rule-spec =
     tie.close
     (tie.spec
-    mul-first
-    shared-slice-read-first
-    add-first
-    add-lefts
-    mul-lefts
-    shared-slice-read-lefts
-    add-rights
-    mul-rights
-    shared-slice-read-rights
-    left-from-requires
-    cast-test-lefts
-    test-lefts-requires
-    right-from-requires
-    cast-test-gates
-    test-gates-requires
-    closing-from-requires
-    add-test-closing
-    test-closing-requires
-    add-owed
-    sub-owed
-    owed-requires
+    (λ c. search needs)  -- mul-first
+    (λ c. search needs)  -- shared-slice-read-first
+    (λ c. search needs)  -- add-first
+    (λ c. search needs)  -- add-lefts
+    (λ c. search needs)  -- mul-lefts
+    (λ c. search needs)  -- shared-slice-read-lefts
+    (λ c. search needs)  -- add-rights
+    (λ c. search needs)  -- mul-rights
+    (λ c. search needs)  -- shared-slice-read-rights
+    (λ c κs. search needs)  -- left-from-requires
+    (λ c. search needs)  -- cast-test-lefts
+    (λ c κs. search needs)  -- test-lefts-requires
+    (λ c κs. search needs)  -- right-from-requires
+    (λ c. search needs)  -- cast-test-gates
+    (λ c κs. search needs)  -- test-gates-requires
+    (λ c κs. search needs)  -- closing-from-requires
+    (λ c. search needs)  -- add-test-closing
+    (λ c κs. search needs)  -- test-closing-requires
+    (λ c. search needs)  -- add-owed
+    (λ c. search needs)  -- sub-owed
+    (λ c κs. search needs)  -- owed-requires
     returns)

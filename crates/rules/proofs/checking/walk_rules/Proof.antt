@@ -43,25 +43,16 @@ returns c =
 shared-slice-read-remaining : tie.Need-shared-slice-read-remaining Inv-loop μ-loop
 shared-slice-read-remaining c = omega (arith, whole-lines _ (c .before .before .before .before .pre))
 
-rules-from-requires : tie.Need-rules-from-requires Inv-loop μ-loop
-rules-from-requires c κs = search needs
-
 loop-holds : tie.Need-loop-holds Inv-loop μ-loop
 loop-holds c =
     let t = c .before .before .before .before .before .args .t .now in
     let w = c .before .before .before .before .before .pre in
     (omega (arith, whole-lines t w), ap (λ p. testedFrom t (ruleCount t) p true true true) (c .rules-from .ensures) ∙ tested-top t w (sym (c .before .before .before .rules-head-in-limits .ensures) ∙ not-false _ (c .before .before .if1 .left)))
 
-sub-if2 : tie.Need-sub-if2 Inv-loop μ-loop
-sub-if2 c = search needs
-
 returns-2 : tie.Need-returns-2 Inv-loop μ-loop
 returns-2 c =
     let l = c .before .before in
     found l 5 (omega arith) (walk-short (table l) (l .loop .remaining) (l .loop .p) (c .before .loop-test .taken) (omega arith))
-
-rule-in-limits-requires : tie.Need-rule-in-limits-requires Inv-loop μ-loop
-rule-in-limits-requires c κs = search needs
 
 returns-3 : tie.Need-returns-3 Inv-loop μ-loop
 returns-3 c =
@@ -84,12 +75,6 @@ test-rule-requires c κs =
     let l = c .before .before .before .before .before .before in
     sized-of (table l) (l .loop .p) (within (c .before .before)) (omega (arith, c .before .next-rule .ensures))
 
-sub-remaining : tie.Need-sub-remaining Inv-loop μ-loop
-sub-remaining c = search needs
-
-loop-less : tie.Need-loop-less Inv-loop μ-loop
-loop-less c = search needs
-
 loop-again : tie.Need-loop-again Inv-loop μ-loop
 loop-again c =
     let l = c .before .before .before .before .before .before .before in
@@ -102,9 +87,6 @@ returns-5 : tie.Need-returns-5 Inv-loop μ-loop
 returns-5 c =
     let l = c .before .before in
     found l 5 (omega arith) (walk-over (table l) (l .loop .remaining) (l .loop .p) (omega arith) (c .if5 .taken))
-
-lowest-requires : tie.Need-lowest-requires Inv-loop μ-loop
-lowest-requires c κs = search needs
 
 returns-6 : tie.Need-returns-6 Inv-loop μ-loop
 returns-6 c =
@@ -121,18 +103,18 @@ walk-rules-spec =
     rules-head-in-limits-requires
     returns
     shared-slice-read-remaining
-    rules-from-requires
+    (λ c κs. search needs)  -- rules-from-requires
     loop-holds
-    sub-if2
+    (λ c. search needs)  -- sub-if2
     returns-2
-    rule-in-limits-requires
+    (λ c κs. search needs)  -- rule-in-limits-requires
     returns-3
     next-rule-requires
     returns-4
     test-rule-requires
-    sub-remaining
-    loop-less
+    (λ c. search needs)  -- sub-remaining
+    (λ c. search needs)  -- loop-less
     loop-again
     returns-5
-    lowest-requires
+    (λ c κs. search needs)  -- lowest-requires
     returns-6)

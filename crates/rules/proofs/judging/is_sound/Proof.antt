@@ -27,79 +27,16 @@ ordered-at t holes n q q′ e h = ap (λ q. allGates operandsBelow (firstGate ho
 closing-within : (t : List ℕ) (p : ℕ) → WellFormedRule t p → (q : ℕ) → q ≡ closingFrom t p → getD t (q + 1) 0 < firstGate (holesAt t p) + rightsAt t p
 closing-within t p w q e = rw e (closing-below t p w)
 
-mul-holes : tie.Need-mul-holes
-mul-holes c = search needs
-
-shared-slice-read-holes : tie.Need-shared-slice-read-holes
-shared-slice-read-holes c = search needs
-
-cast-holes : tie.Need-cast-holes
-cast-holes c = search needs
-
-add-lefts : tie.Need-add-lefts
-add-lefts c = search needs
-
-mul-lefts : tie.Need-mul-lefts
-mul-lefts c = search needs
-
-shared-slice-read-lefts : tie.Need-shared-slice-read-lefts
-shared-slice-read-lefts c = search needs
-
-cast-lefts : tie.Need-cast-lefts
-cast-lefts c = search needs
-
-add-rights : tie.Need-add-rights
-add-rights c = search needs
-
-mul-rights : tie.Need-mul-rights
-mul-rights c = search needs
-
-shared-slice-read-rights : tie.Need-shared-slice-read-rights
-shared-slice-read-rights c = search needs
-
-cast-rights : tie.Need-cast-rights
-cast-rights c = search needs
-
-cast-root : tie.Need-cast-root
-cast-root c = search needs
-
-add-root : tie.Need-add-root
-add-root c = search needs
-
-add-root-2 : tie.Need-add-root-2
-add-root-2 c = search needs
-
-sub-root : tie.Need-sub-root
-sub-root c = search needs
-
-closing-from-requires : tie.Need-closing-from-requires
-closing-from-requires c κs = search needs
-
-add-closing : tie.Need-add-closing
-add-closing c = search needs
-
-mul-closing : tie.Need-mul-closing
-mul-closing c = search needs
-
-shared-slice-read-closing : tie.Need-shared-slice-read-closing
-shared-slice-read-closing c = search needs
-
 cast-closing : tie.Need-cast-closing
 cast-closing c =
     let s = c .before .before .before .before .before .before in
     omega (arith, closing-within (s .args .t .now) (s .args .p) (s .pre) (c .before .closing-from .result) (c .before .closing-from .ensures), s .pre .sized)
-
-left-from-requires : tie.Need-left-from-requires
-left-from-requires c κs = search needs
 
 side-word-requires : tie.Need-side-word-requires
 side-word-requires c κs =
     let s = c .before .before .before .before .before .before .before in
     let w = s .pre .sized in
     ((omega (arith, w), (omega (arith, w), omega (arith, w))), (omega (arith, w), ordered-at (s .args .t .now) _ _ (c .left-from .result) _ (c .left-from .ensures) (left-references-ok (s .args .t .now) (s .args .p) (s .pre))))
-
-right-from-requires : tie.Need-right-from-requires
-right-from-requires c κs = search needs
 
 side-word-requires-2 : tie.Need-side-word-requires-2
 side-word-requires-2 c κs =
@@ -121,28 +58,28 @@ pub is-sound-spec : {M : Type 1} → statement M
 is-sound-spec =
     tie.close
     (tie.spec
-    mul-holes
-    shared-slice-read-holes
-    cast-holes
-    add-lefts
-    mul-lefts
-    shared-slice-read-lefts
-    cast-lefts
-    add-rights
-    mul-rights
-    shared-slice-read-rights
-    cast-rights
-    cast-root
-    add-root
-    add-root-2
-    sub-root
-    closing-from-requires
-    add-closing
-    mul-closing
-    shared-slice-read-closing
+    (λ c. search needs)  -- mul-holes
+    (λ c. search needs)  -- shared-slice-read-holes
+    (λ c. search needs)  -- cast-holes
+    (λ c. search needs)  -- add-lefts
+    (λ c. search needs)  -- mul-lefts
+    (λ c. search needs)  -- shared-slice-read-lefts
+    (λ c. search needs)  -- cast-lefts
+    (λ c. search needs)  -- add-rights
+    (λ c. search needs)  -- mul-rights
+    (λ c. search needs)  -- shared-slice-read-rights
+    (λ c. search needs)  -- cast-rights
+    (λ c. search needs)  -- cast-root
+    (λ c. search needs)  -- add-root
+    (λ c. search needs)  -- add-root-2
+    (λ c. search needs)  -- sub-root
+    (λ c κs. search needs)  -- closing-from-requires
+    (λ c. search needs)  -- add-closing
+    (λ c. search needs)  -- mul-closing
+    (λ c. search needs)  -- shared-slice-read-closing
     cast-closing
-    left-from-requires
+    (λ c κs. search needs)  -- left-from-requires
     side-word-requires
-    right-from-requires
+    (λ c κs. search needs)  -- right-from-requires
     side-word-requires-2
     returns)

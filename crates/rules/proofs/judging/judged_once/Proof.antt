@@ -8,22 +8,10 @@ use Rattle.rules.proofs.judging.judged_once.Tie as tie
 returns : tie.Need-returns
 returns c = let s = c .before .before in (judged-beyond (s .args .t .now) (s .args .rule) (s .pre .0) (c .if1 .taken), s .pre .1)
 
-mul-old : tie.Need-mul-old
-mul-old c = search needs
-
-element-copy-out-old : tie.Need-element-copy-out-old
-element-copy-out-old c = search needs
-
-cast-t14 : tie.Need-cast-t14
-cast-t14 c = search needs
-
 returns-2 : tie.Need-returns-2
 returns-2 c =
     let s = c .before .before .before .before in
     (remembered-rule (s .args .t .now) (s .args .known .now) (s .pre .1) (s .args .rule) (c .if2 .taken), s .pre .1)
-
-judged-rule-requires : tie.Need-judged-rule-requires
-judged-rule-requires c κs = search needs
 
 mul-known : tie.Need-mul-known
 mul-known c =
@@ -31,20 +19,11 @@ mul-known c =
     let j = c .before .judged-rule in
     omega (arith, judged-within (s .args .t .now) (s .args .rule) (j .result) (j .ensures) (s .pre .0))
 
-cast-known : tie.Need-cast-known
-cast-known c = search needs
-
 add-known : tie.Need-add-known
 add-known c =
     let s = c .before .before .before .before .before .before .before in
     let j = c .before .before .judged-rule in
     omega (arith, judged-within (s .args .t .now) (s .args .rule) (j .result) (j .ensures) (s .pre .0), judged-small (s .args .t .now) (s .args .rule) (j .result) (j .ensures))
-
-mul-known-2 : tie.Need-mul-known-2
-mul-known-2 c = search needs
-
-element-write-known : tie.Need-element-write-known
-element-write-known c = search needs
 
 returns-3 : tie.Need-returns-3
 returns-3 c =
@@ -57,14 +36,14 @@ judged-once-spec =
     tie.close
     (tie.spec
     returns
-    mul-old
-    element-copy-out-old
-    cast-t14
+    (λ c. search needs)  -- mul-old
+    (λ c. search needs)  -- element-copy-out-old
+    (λ c. search needs)  -- cast-t14
     returns-2
-    judged-rule-requires
+    (λ c κs. search needs)  -- judged-rule-requires
     mul-known
-    cast-known
+    (λ c. search needs)  -- cast-known
     add-known
-    mul-known-2
-    element-write-known
+    (λ c. search needs)  -- mul-known-2
+    (λ c. search needs)  -- element-write-known
     returns-3)

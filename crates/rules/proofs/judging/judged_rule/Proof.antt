@@ -12,9 +12,6 @@ use Rattle.rules.proofs.judging.judged_rule.Tie as tie
 there : (c : tie.Else1) → hasRule (c .before .before .before .args .t .now) (c .before .before .before .args .rule) ≡ true
 there c = sym (c .before .has-rule .ensures) ∙ not-false _ (c .if1 .left)
 
-has-rule-requires : tie.Need-has-rule-requires
-has-rule-requires c κs = search needs
-
 returns : tie.Need-returns
 returns c = judged-missing _ _ (sym (c .before .has-rule .ensures) ∙ not-true _ (c .if1 .taken))
 
@@ -34,4 +31,9 @@ returns-2 c =
 pub judged-rule-spec : {M : Type 1} → statement M
 judged-rule-spec =
     tie.close
-    (tie.spec has-rule-requires returns place-requires soundness-verdict-requires returns-2)
+    (tie.spec
+    (λ c κs. search needs)  -- has-rule-requires
+    returns
+    place-requires
+    soundness-verdict-requires
+    returns-2)

@@ -7,9 +7,6 @@ use Rattle.rules.specs.Verdict.{passes, notSound}
 use Rattle.rules.proofs.judging.soundness_verdict.Statement.{statement}
 use Rattle.rules.proofs.judging.soundness_verdict.Tie as tie
 
-is-sound-requires : tie.Need-is-sound-requires
-is-sound-requires c κs = search needs
-
 returns : tie.Need-returns
 returns c = sym (first-false notSound passes (ap not (sym (c .before .is-sound .ensures) ∙ c .if1 .taken)))
 
@@ -17,4 +14,9 @@ returns-2 : tie.Need-returns-2
 returns-2 c = sym (first-true notSound passes (ap not (sym (c .before .is-sound .ensures) ∙ c .if1 .left)))
 
 pub soundness-verdict-spec : {M : Type 1} → statement M
-soundness-verdict-spec = tie.close (tie.spec is-sound-requires returns returns-2)
+soundness-verdict-spec =
+    tie.close
+    (tie.spec
+    (λ c κs. search needs)  -- is-sound-requires
+    returns
+    returns-2)

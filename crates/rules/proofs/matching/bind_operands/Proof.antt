@@ -6,12 +6,6 @@ use Rattle.rules.proofs.MatchLaws.{then-some, then-none}
 use Rattle.rules.proofs.matching.bind_operands.Statement.{statement}
 use Rattle.rules.proofs.matching.bind_operands.Tie as tie
 
-bind-reference-requires : tie.Need-bind-reference-requires
-bind-reference-requires c κs = search needs
-
-bind-reference-requires-2 : tie.Need-bind-reference-requires-2
-bind-reference-requires-2 c κs = search needs
-
 returns : tie.Need-returns
 returns c = let a = c .before .before .before .before .before .args in
     c .bind-reference2 .ensures ∙ then-some (bindReference (a .l) (a .x) (a .b .now)) (bindReference (a .r) (a .y)) (c .before .before .before .bind-reference .result) (c .before .before .before .bind-reference .last .0) (c .before .before .before .bind-reference .ensures) (c .before .before .if1 .taken)
@@ -22,4 +16,9 @@ returns-2 c = let a = c .before .before .before .args in
 
 pub bind-operands-spec : {M : Type 1} → statement M
 bind-operands-spec =
-    tie.close (tie.spec bind-reference-requires bind-reference-requires-2 returns returns-2)
+    tie.close
+    (tie.spec
+    (λ c κs. search needs)  -- bind-reference-requires
+    (λ c κs. search needs)  -- bind-reference-requires-2
+    returns
+    returns-2)

@@ -5,28 +5,10 @@ use borrow.Author.Needs.{needs}
 use Rattle.rules.proofs.matching.match_at.Statement.{statement}
 use Rattle.rules.proofs.matching.match_at.Tie as tie
 
-add-if1 : tie.Need-add-if1
-add-if1 c = search needs
-
-mul-if1 : tie.Need-mul-if1
-mul-if1 c = search needs
-
-shared-slice-read-if1 : tie.Need-shared-slice-read-if1
-shared-slice-read-if1 c = search needs
-
-shr-if1 : tie.Need-shr-if1
-shr-if1 c = search needs
-
 returns : tie.Need-returns
 returns c =
     let a = c .before .before .before .before .args in
     at-beyond (decode (a .c .now)) (a .t .now) (a .p) (a .gate) (a .mask) (a .b .now) (c .if1 .taken)
-
-start-bindings-requires : tie.Need-start-bindings-requires
-start-bindings-requires c κs = search needs
-
-match-gates-requires : tie.Need-match-gates-requires
-match-gates-requires c κs = search needs
 
 returns-2 : tie.Need-returns-2
 returns-2 c =
@@ -46,12 +28,12 @@ pub match-at-spec : {M : Type 1} → statement M
 match-at-spec =
     tie.close
     (tie.spec
-    add-if1
-    mul-if1
-    shared-slice-read-if1
-    shr-if1
+    (λ c. search needs)  -- add-if1
+    (λ c. search needs)  -- mul-if1
+    (λ c. search needs)  -- shared-slice-read-if1
+    (λ c. search needs)  -- shr-if1
     returns
-    start-bindings-requires
-    match-gates-requires
+    (λ c κs. search needs)  -- start-bindings-requires
+    (λ c κs. search needs)  -- match-gates-requires
     returns-2
     returns-3)

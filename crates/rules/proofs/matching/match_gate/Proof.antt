@@ -21,48 +21,15 @@ low c = c .before .before .before .if1 .left
 high : (c : tie.After-gate-line) → getD (c .before .before .before .before .before .before .before .before .args .b .now) (c .before .before .before .before .before .before .before .before .args .m) 0 - 1 - firstGate (inputs (c .before .before .before .before .before .before .before .before .args .c .now)) < gates (c .before .before .before .before .before .before .before .before .args .c .now)
 high c = c .before .if2 .left
 
-shared-slice-read-base : tie.Need-shared-slice-read-base
-shared-slice-read-base c = search needs
-
-add-base : tie.Need-add-base
-add-base c = search needs
-
-mul-bound : tie.Need-mul-bound
-mul-bound c = search needs
-
-element-copy-out-bound : tie.Need-element-copy-out-bound
-element-copy-out-bound c = search needs
-
 returns : tie.Need-returns
 returns c =
     let a = c .before .before .before .before .before .args in
     match-low (a .c .now) (a .m) (lineAt (a .t .now) (a .q)) (a .swap) (a .b .now) (c .if1 .taken)
 
-sub-k : tie.Need-sub-k
-sub-k c = search needs
-
-sub-k-2 : tie.Need-sub-k-2
-sub-k-2 c = search needs
-
-shared-slice-read-if2 : tie.Need-shared-slice-read-if2
-shared-slice-read-if2 c = search needs
-
 returns-2 : tie.Need-returns-2
 returns-2 c =
     let a = c .before .before .before .before .before .before .before .args in
     match-high (a .c .now) (a .m) (lineAt (a .t .now) (a .q)) (a .swap) (a .b .now) (c .before .before .if1 .left) (c .if2 .taken)
-
-cast-gate-line : tie.Need-cast-gate-line
-cast-gate-line c = search needs
-
-gate-line-requires : tie.Need-gate-line-requires
-gate-line-requires c κs = search needs
-
-mul-same-kind : tie.Need-mul-same-kind
-mul-same-kind c = search needs
-
-shared-slice-read-same-kind : tie.Need-shared-slice-read-same-kind
-shared-slice-read-same-kind c = search needs
 
 same-kind-requires : tie.Need-same-kind-requires
 same-kind-requires c κs =
@@ -78,33 +45,6 @@ returns-3 c =
     match-kind (a .c .now) (a .m) (lineAt (a .t .now) (a .q)) (a .swap) (a .b .now) (low l) (high l) (l .gate-line .result) (l .gate-line .ensures .0)
     (sym (c .before .same-kind .ensures) ∙ not-true _ (c .if3 .taken))
 
-add-l : tie.Need-add-l
-add-l c = search needs
-
-mul-l : tie.Need-mul-l
-mul-l c = search needs
-
-shared-slice-read-l : tie.Need-shared-slice-read-l
-shared-slice-read-l c = search needs
-
-cast-l : tie.Need-cast-l
-cast-l c = search needs
-
-add-r : tie.Need-add-r
-add-r c = search needs
-
-mul-r : tie.Need-mul-r
-mul-r c = search needs
-
-shared-slice-read-r : tie.Need-shared-slice-read-r
-shared-slice-read-r c = search needs
-
-cast-r : tie.Need-cast-r
-cast-r c = search needs
-
-bind-operands-requires : tie.Need-bind-operands-requires
-bind-operands-requires c κs = search needs
-
 returns-4 : tie.Need-returns-4
 unfolding bindOperands
 returns-4 c =
@@ -115,9 +55,6 @@ returns-4 c =
     _∙_ {b = bindOperands g (r .right) (r .left) (a .b .now)}
     (c .bind-operands .ensures)
     (match-cross (a .c .now) (a .m) g (a .swap) (a .b .now) (low l) (high l) r (l .gate-line .ensures .0) (sym (c .before .before .before .before .before .before .same-kind .ensures) ∙ not-false _ (c .before .before .before .before .before .if3 .left)) (c .before .before .if4 .taken))
-
-bind-operands-requires-2 : tie.Need-bind-operands-requires-2
-bind-operands-requires-2 c κs = search needs
 
 returns-5 : tie.Need-returns-5
 unfolding bindOperands
@@ -134,30 +71,30 @@ pub match-gate-spec : {M : Type 1} → statement M
 match-gate-spec =
     tie.close
     (tie.spec
-    shared-slice-read-base
-    add-base
-    mul-bound
-    element-copy-out-bound
+    (λ c. search needs)  -- shared-slice-read-base
+    (λ c. search needs)  -- add-base
+    (λ c. search needs)  -- mul-bound
+    (λ c. search needs)  -- element-copy-out-bound
     returns
-    sub-k
-    sub-k-2
-    shared-slice-read-if2
+    (λ c. search needs)  -- sub-k
+    (λ c. search needs)  -- sub-k-2
+    (λ c. search needs)  -- shared-slice-read-if2
     returns-2
-    cast-gate-line
-    gate-line-requires
-    mul-same-kind
-    shared-slice-read-same-kind
+    (λ c. search needs)  -- cast-gate-line
+    (λ c κs. search needs)  -- gate-line-requires
+    (λ c. search needs)  -- mul-same-kind
+    (λ c. search needs)  -- shared-slice-read-same-kind
     same-kind-requires
     returns-3
-    add-l
-    mul-l
-    shared-slice-read-l
-    cast-l
-    add-r
-    mul-r
-    shared-slice-read-r
-    cast-r
-    bind-operands-requires
+    (λ c. search needs)  -- add-l
+    (λ c. search needs)  -- mul-l
+    (λ c. search needs)  -- shared-slice-read-l
+    (λ c. search needs)  -- cast-l
+    (λ c. search needs)  -- add-r
+    (λ c. search needs)  -- mul-r
+    (λ c. search needs)  -- shared-slice-read-r
+    (λ c. search needs)  -- cast-r
+    (λ c κs. search needs)  -- bind-operands-requires
     returns-4
-    bind-operands-requires-2
+    (λ c κs. search needs)  -- bind-operands-requires-2
     returns-5)

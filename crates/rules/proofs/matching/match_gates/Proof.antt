@@ -17,26 +17,8 @@ Inv-loop c t p mask b₀ from i₀ b i = (i ≤ leftsAt t p) × (matchGates (dec
 abbrev μ-loop : tie.MeasureT-loop
 μ-loop c t p mask b₀ from i₀ b i = i
 
-gates-from-requires : tie.Need-gates-from-requires Inv-loop μ-loop
-gates-from-requires c κs = search needs
-
-add-i : tie.Need-add-i Inv-loop μ-loop
-add-i c = search needs
-
-mul-i : tie.Need-mul-i Inv-loop μ-loop
-mul-i c = search needs
-
-shared-slice-read-i : tie.Need-shared-slice-read-i Inv-loop μ-loop
-shared-slice-read-i c = search needs
-
 loop-holds : tie.Need-loop-holds Inv-loop μ-loop
 loop-holds c = (search needs, refl)
-
-sub-i : tie.Need-sub-i Inv-loop μ-loop
-sub-i c = search needs
-
-shr-swap : tie.Need-shr-swap Inv-loop μ-loop
-shr-swap c = search needs
 
 match-left-requires : tie.Need-match-left-requires Inv-loop μ-loop
 match-left-requires c κs =
@@ -51,9 +33,6 @@ returns c =
     let m = c .before .match-left in
     gates-fail (decode (a .c .now)) (a .t .now) (a .p) (a .mask) (l .i) (l .b) (m .last .1 .1 .1 .1 .1 .1 .0) (m .result) (c .before .before .before .loop-test .taken) (m .ensures) (not-true _ (c .if1 .taken))
     ∙ l .inv .1
-
-loop-less : tie.Need-loop-less Inv-loop μ-loop
-loop-less c = search needs
 
 loop-again : tie.Need-loop-again Inv-loop μ-loop
 loop-again c =
@@ -74,15 +53,15 @@ match-gates-spec =
     (tie.spec
     Inv-loop
     μ-loop
-    gates-from-requires
-    add-i
-    mul-i
-    shared-slice-read-i
+    (λ c κs. search needs)  -- gates-from-requires
+    (λ c. search needs)  -- add-i
+    (λ c. search needs)  -- mul-i
+    (λ c. search needs)  -- shared-slice-read-i
     loop-holds
-    sub-i
-    shr-swap
+    (λ c. search needs)  -- sub-i
+    (λ c. search needs)  -- shr-swap
     match-left-requires
     returns
-    loop-less
+    (λ c. search needs)  -- loop-less
     loop-again
     returns-2)

@@ -12,33 +12,6 @@ use borrow.Author.Needs.{needs}
 use Rattle.rules.proofs.matching.match_left.Statement.{statement}
 use Rattle.rules.proofs.matching.match_left.Tie as tie
 
-mul-base : tie.Need-mul-base
-mul-base c = search needs
-
-shared-slice-read-base : tie.Need-shared-slice-read-base
-shared-slice-read-base c = search needs
-
-cast-base : tie.Need-cast-base
-cast-base c = search needs
-
-cast-base-2 : tie.Need-cast-base-2
-cast-base-2 c = search needs
-
-add-base : tie.Need-add-base
-add-base c = search needs
-
-left-from-requires : tie.Need-left-from-requires
-left-from-requires c κs = search needs
-
-mul-match-gate : tie.Need-mul-match-gate
-mul-match-gate c = search needs
-
-add-match-gate : tie.Need-add-match-gate
-add-match-gate c = search needs
-
-add-match-gate-2 : tie.Need-add-match-gate-2
-add-match-gate-2 c = search needs
-
 match-gate-requires : tie.Need-match-gate-requires
 match-gate-requires c κs =
     let s = c .before .before .before .before .before in
@@ -59,14 +32,14 @@ pub match-left-spec : {M : Type 1} → statement M
 match-left-spec =
     tie.close
     (tie.spec
-    mul-base
-    shared-slice-read-base
-    cast-base
-    cast-base-2
-    add-base
-    left-from-requires
-    mul-match-gate
-    add-match-gate
-    add-match-gate-2
+    (λ c. search needs)  -- mul-base
+    (λ c. search needs)  -- shared-slice-read-base
+    (λ c. search needs)  -- cast-base
+    (λ c. search needs)  -- cast-base-2
+    (λ c. search needs)  -- add-base
+    (λ c κs. search needs)  -- left-from-requires
+    (λ c. search needs)  -- mul-match-gate
+    (λ c. search needs)  -- add-match-gate
+    (λ c. search needs)  -- add-match-gate-2
     match-gate-requires
     returns)

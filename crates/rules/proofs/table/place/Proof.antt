@@ -18,9 +18,6 @@ abbrev μ-loop : tie.MeasureT-loop
 sub-before : tie.Need-sub-before Inv-loop μ-loop
 sub-before c = omega (arith, rule-from (c .before .args .t .now) (c .before .args .rule) (c .before .pre .1))
 
-rules-from-requires : tie.Need-rules-from-requires Inv-loop μ-loop
-rules-from-requires c κs = search needs
-
 loop-holds : tie.Need-loop-holds Inv-loop μ-loop
 loop-holds c = (search needs, c .rules-from .ensures ∙ sym (place-none _ _))
 
@@ -31,12 +28,6 @@ next-rule-requires c κs =
     let t = a .args .t .now in
     let r : RuleSized t (l .loop .p) = rw (l .loop .inv .1) (walk-at t (ruleCount t) (rulesFrom t) (l .loop .i) (omega (arith, rule-from t (a .args .rule) (a .pre .1), rule-to t (a .args .rule) (a .pre .1))) (a .pre .0 .walked)) in
     omega (arith, r)
-
-add-i : tie.Need-add-i Inv-loop μ-loop
-add-i c = search needs
-
-loop-less : tie.Need-loop-less Inv-loop μ-loop
-loop-less c = search needs
 
 loop-again : tie.Need-loop-again Inv-loop μ-loop
 loop-again c =
@@ -59,10 +50,10 @@ place-spec =
     Inv-loop
     μ-loop
     sub-before
-    rules-from-requires
+    (λ c κs. search needs)  -- rules-from-requires
     loop-holds
     next-rule-requires
-    add-i
-    loop-less
+    (λ c. search needs)  -- add-i
+    (λ c. search needs)  -- loop-less
     loop-again
     returns)

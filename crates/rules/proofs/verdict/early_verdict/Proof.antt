@@ -9,12 +9,6 @@ use borrow.Author.Needs.{needs}
 use Rattle.rules.proofs.verdict.early_verdict.Statement.{statement}
 use Rattle.rules.proofs.verdict.early_verdict.Tie as tie
 
-kind-of-requires : tie.Need-kind-of-requires
-kind-of-requires c κs = search needs
-
-site-verdict-requires : tie.Need-site-verdict-requires
-site-verdict-requires c κs = search needs
-
 returns : tie.Need-returns
 returns c =
     let a = c .before .before .before .args in
@@ -22,4 +16,9 @@ returns c =
     ∙ ap (λ v. first (eqb (a .judged) passes) v (a .judged)) (ap kindVerdict (c .before .kind-of .ensures) ∙ kind-asks-for-gate (decode (a .c .now)) (a .gate))
 
 pub early-verdict-spec : {M : Type 1} → statement M
-early-verdict-spec = tie.close (tie.spec kind-of-requires site-verdict-requires returns)
+early-verdict-spec =
+    tie.close
+    (tie.spec
+    (λ c κs. search needs)  -- kind-of-requires
+    (λ c κs. search needs)  -- site-verdict-requires
+    returns)

@@ -7,23 +7,11 @@ use Rattle.rules.proofs.VerdictLaws.{kind-constant, kind-input, kind-ga
 use Rattle.rules.proofs.verdict.kind_of.Statement.{statement}
 use Rattle.rules.proofs.verdict.kind_of.Tie as tie
 
-shared-slice-read-base : tie.Need-shared-slice-read-base
-shared-slice-read-base c = search needs
-
-add-base : tie.Need-add-base
-add-base c = search needs
-
 returns : tie.Need-returns
 returns c =
     let s = c .before .before .before .before in
     let t = s .args .c .now in
     kind-input (decode t) (s .args .v) (omega arith) (c .if3 .taken)
-
-shared-slice-read-if4 : tie.Need-shared-slice-read-if4
-shared-slice-read-if4 c = search needs
-
-add-if4 : tie.Need-add-if4
-add-if4 c = search needs
 
 returns-2 : tie.Need-returns-2
 returns-2 c =
@@ -53,11 +41,11 @@ pub kind-of-spec : {M : Type 1} → statement M
 kind-of-spec =
     tie.close
     (tie.spec
-    shared-slice-read-base
-    add-base
+    (λ c. search needs)  -- shared-slice-read-base
+    (λ c. search needs)  -- add-base
     returns
-    shared-slice-read-if4
-    add-if4
+    (λ c. search needs)  -- shared-slice-read-if4
+    (λ c. search needs)  -- add-if4
     returns-2
     returns-3
     returns-4

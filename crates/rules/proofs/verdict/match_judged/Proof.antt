@@ -19,9 +19,6 @@ none c =
     let small = early-small (decode (a .c .now)) (a .gate) (a .judged) (c .before .early-verdict .result) (c .before .early-verdict .ensures) (s .pre .1 .0) in
     ⊎-elim (λ w. omega (arith, w)) (λ w. omega (arith, w, small)) (c .match .came)
 
-early-verdict-requires : tie.Need-early-verdict-requires
-early-verdict-requires c κs = search needs
-
 match-at-requires : tie.Need-match-at-requires
 match-at-requires c κs =
     let s = c .before .before .before .before .before in
@@ -46,4 +43,10 @@ returns-2 c =
     (judged-at (decode (a .c .now)) (a .gate) (a .judged) (v .result) (v .ensures) (ruleAt (a .t .now) (a .p)) (a .mask) (none (c .before .before)))
 
 pub match-judged-spec : {M : Type 1} → statement M
-match-judged-spec = tie.close (tie.spec early-verdict-requires match-at-requires returns returns-2)
+match-judged-spec =
+    tie.close
+    (tie.spec
+    (λ c κs. search needs)  -- early-verdict-requires
+    match-at-requires
+    returns
+    returns-2)

@@ -8,9 +8,6 @@ use Rattle.rules.proofs.JudgedLaws.{judged-small, judged-rule, site-jud
 use Rattle.rules.proofs.verdict.match_verdict.Statement.{statement}
 use Rattle.rules.proofs.verdict.match_verdict.Tie as tie
 
-judged-rule-requires : tie.Need-judged-rule-requires
-judged-rule-requires c κs = search needs
-
 match-judged-requires : tie.Need-match-judged-requires
 match-judged-requires c κs =
     let s = c .before .before .before .before in
@@ -26,4 +23,9 @@ returns c =
     ∙ ap (λ (x : SiteMatch). x .verdict) (m .ensures ∙ site-judged (a .t .now) (a .rule) (j .result) (j .ensures) (decode (a .c .now)) (a .gate) (a .mask))
 
 pub match-verdict-spec : {M : Type 1} → statement M
-match-verdict-spec = tie.close (tie.spec judged-rule-requires match-judged-requires returns)
+match-verdict-spec =
+    tie.close
+    (tie.spec
+    (λ c κs. search needs)  -- judged-rule-requires
+    match-judged-requires
+    returns)

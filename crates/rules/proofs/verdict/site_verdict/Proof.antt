@@ -11,18 +11,6 @@ use Rattle.rules.proofs.verdict.site_verdict.Tie as tie
 none : (c : tie.At-match-came) → c .before .args .judged ≡ passes
 none c = ⊎-elim (λ w. omega (arith, w)) (λ w. omega (arith, w, c .before .pre)) (c .match .came)
 
-enum-told : tie.Need-enum-told
-enum-told c = search needs
-
-enum-told-2 : tie.Need-enum-told-2
-enum-told-2 c = search needs
-
-enum-told-3 : tie.Need-enum-told-3
-enum-told-3 c = search needs
-
-enum-told-4 : tie.Need-enum-told-4
-enum-told-4 c = search needs
-
 returns : tie.Need-returns
 returns c = rw (ne-eqb (c .before .before .args .judged) passes (λ e. omega arith))
 
@@ -42,10 +30,10 @@ pub site-verdict-spec : {M : Type 1} → statement M
 site-verdict-spec =
     tie.close
     (tie.spec
-    enum-told
-    enum-told-2
-    enum-told-3
-    enum-told-4
+    (λ c. search needs)  -- enum-told
+    (λ c. search needs)  -- enum-told-2
+    (λ c. search needs)  -- enum-told-3
+    (λ c. search needs)  -- enum-told-4
     returns
     returns-2
     returns-3

@@ -7,12 +7,6 @@ use borrow.Author.Needs.{needs}
 use Rattle.rules.proofs.verdict.trimmed_verdict.Statement.{statement}
 use Rattle.rules.proofs.verdict.trimmed_verdict.Tie as tie
 
-old-number-requires : tie.Need-old-number-requires
-old-number-requires c κs = search needs
-
-match-verdict-requires : tie.Need-match-verdict-requires
-match-verdict-requires c κs = search needs
-
 returns : tie.Need-returns
 returns c =
     let s = c .before .before .before .before in
@@ -22,4 +16,9 @@ returns c =
     ∙ trimmed-site (a .c .now) (s .pre .0) (a .t .now) (a .rule) (a .gate) (a .mask))
 
 pub trimmed-verdict-spec : {M : Type 1} → statement M
-trimmed-verdict-spec = tie.close (tie.spec old-number-requires match-verdict-requires returns)
+trimmed-verdict-spec =
+    tie.close
+    (tie.spec
+    (λ c κs. search needs)  -- old-number-requires
+    (λ c κs. search needs)  -- match-verdict-requires
+    returns)

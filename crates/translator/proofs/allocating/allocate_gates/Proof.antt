@@ -17,41 +17,11 @@ Inv-loop t last owner₀ freed₀ place₀ buffer₀ from first count counts₀ 
 abbrev μ-loop : tie.MeasureT-loop
 μ-loop t last owner₀ freed₀ place₀ buffer₀ from first count counts₀ i₀ owner freed place buffer counts i = gates t - i
 
-gates-from-requires : tie.Need-gates-from-requires Inv-loop μ-loop
-gates-from-requires c κs = search needs
-
-shared-slice-read-first-gate : tie.Need-shared-slice-read-first-gate Inv-loop μ-loop
-shared-slice-read-first-gate c = search needs
-
-add-first-gate : tie.Need-add-first-gate Inv-loop μ-loop
-add-first-gate c = search needs
-
-cast-first-gate : tie.Need-cast-first-gate Inv-loop μ-loop
-cast-first-gate c = search needs
-
-shared-slice-read-gates : tie.Need-shared-slice-read-gates Inv-loop μ-loop
-shared-slice-read-gates c = search needs
-
-cast-gates : tie.Need-cast-gates Inv-loop μ-loop
-cast-gates c = search needs
-
 loop-holds : tie.Need-loop-holds Inv-loop μ-loop
 loop-holds c =
     let s = c .before .before .before .before .before in
     let a = s .args in
     (omega arith, gates-none (decode (a .t .now)) (a .owner .now) (a .freed .now) (a .place .now) (a .buffer .now) (s .pre .1 .1 .1 .1 .0))
-
-gate-line-requires : tie.Need-gate-line-requires Inv-loop μ-loop
-gate-line-requires c κs = search needs
-
-cast-number : tie.Need-cast-number Inv-loop μ-loop
-cast-number c = search needs
-
-add-number : tie.Need-add-number Inv-loop μ-loop
-add-number c = search needs
-
-add-gate-turn : tie.Need-add-gate-turn Inv-loop μ-loop
-add-gate-turn c = search needs
 
 gate-turn-requires : tie.Need-gate-turn-requires Inv-loop μ-loop
 gate-turn-requires c κs =
@@ -68,12 +38,6 @@ gate-turn-requires c κs =
             (s .pre .1 .1 .0) _ (b .allocation) _ (omega (arith, s .pre .1 .1 .1 .1 .1, b .kept .long)),
       ),
     )
-
-add-i : tie.Need-add-i Inv-loop μ-loop
-add-i c = search needs
-
-loop-less : tie.Need-loop-less Inv-loop μ-loop
-loop-less c = search needs
 
 loop-again : tie.Need-loop-again Inv-loop μ-loop
 loop-again c =
@@ -101,4 +65,25 @@ returns c =
     represents-same (gates-all t (l .i) e) (l .inv .1)
 
 pub allocate-gates-spec : {M : Type 1} → statement M
-allocate-gates-spec = tie.close (tie.spec Inv-loop μ-loop gates-from-requires shared-slice-read-first-gate add-first-gate cast-first-gate shared-slice-read-gates cast-gates loop-holds gate-line-requires cast-number add-number add-gate-turn gate-turn-requires add-i loop-less loop-again same-length returns)
+allocate-gates-spec =
+    tie.close
+    (tie.spec
+    Inv-loop
+    μ-loop
+    (λ c κs. search needs)  -- gates-from-requires
+    (λ c. search needs)  -- shared-slice-read-first-gate
+    (λ c. search needs)  -- add-first-gate
+    (λ c. search needs)  -- cast-first-gate
+    (λ c. search needs)  -- shared-slice-read-gates
+    (λ c. search needs)  -- cast-gates
+    loop-holds
+    (λ c κs. search needs)  -- gate-line-requires
+    (λ c. search needs)  -- cast-number
+    (λ c. search needs)  -- add-number
+    (λ c. search needs)  -- add-gate-turn
+    gate-turn-requires
+    (λ c. search needs)  -- add-i
+    (λ c. search needs)  -- loop-less
+    loop-again
+    same-length
+    returns)

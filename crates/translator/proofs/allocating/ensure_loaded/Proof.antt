@@ -15,9 +15,6 @@ returns c =
     ensure-there (a .owner .now) (a .freed .now) (a .place .now) (a .buffer .now) (a .counts) (s .pre .0) (a .v)
     (sym (c .before .is-held .ensures) ∙ c .if1 .taken)
 
-cast-assign-register : tie.Need-cast-assign-register
-cast-assign-register c = search needs
-
 assign-register-requires : tie.Need-assign-register-requires
 assign-register-requires c κs =
     let s = c .before .before .before .before .before .before .before .before in
@@ -37,9 +34,6 @@ assign-register-requires c κs =
       ),
     )
 
-same-length : tie.Need-same-length
-same-length c = search needs
-
 returns-2 : tie.Need-returns-2
 returns-2 c =
     let s = c .before .before .before .before .before .before .before .before .before .before .before in
@@ -55,7 +49,7 @@ ensure-loaded-spec =
     (tie.spec
     is-held-requires
     returns
-    cast-assign-register
+    (λ c. search needs)  -- cast-assign-register
     assign-register-requires
-    same-length
+    (λ c. search needs)  -- same-length
     returns-2)

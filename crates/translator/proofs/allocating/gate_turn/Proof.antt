@@ -26,9 +26,6 @@ both c =
     (r .last .0) (a .freed .now) (r .last .1 .1 .0) (r .last .1 .1 .1 .0) (r .result)
     (ensureLoaded (a .gate .right)) (q .ensures) (r .ensures) (ensure-longer (a .gate .right) s)
 
-cast-ensure-loaded : tie.Need-cast-ensure-loaded
-cast-ensure-loaded c = search needs
-
 ensure-loaded-requires : tie.Need-ensure-loaded-requires
 ensure-loaded-requires c κs =
     let s = c .before .before .before .before .before .before in
@@ -36,9 +33,6 @@ ensure-loaded-requires c κs =
     let t = s .pre .1 .1 in
     let x = ensureLoaded (a .gate .left) (allocationOf (a .owner .now) (a .freed .now) (a .buffer .now) (a .counts)) in
     (s .pre .0, (omega (arith, s .pre .1 .0), (t .left-next, omega (arith, t .fits, ensure-longer (a .gate .right) x))))
-
-cast-ensure-loaded-2 : tie.Need-cast-ensure-loaded-2
-cast-ensure-loaded-2 c = search needs
 
 ensure-loaded-requires-2 : tie.Need-ensure-loaded-requires-2
 ensure-loaded-requires-2 c κs =
@@ -74,9 +68,6 @@ operate-requires c κs =
       ),
     )
 
-same-length : tie.Need-same-length
-same-length c = search needs
-
 returns : tie.Need-returns
 returns c =
     let a = c .before .before .before .before .before .before .before .before .before .before .before .before .before .before .before .before .before .before .before .before .before .before .before .before .args in
@@ -93,10 +84,10 @@ pub gate-turn-spec : {M : Type 1} → statement M
 gate-turn-spec =
     tie.close
     (tie.spec
-    cast-ensure-loaded
+    (λ c. search needs)  -- cast-ensure-loaded
     ensure-loaded-requires
-    cast-ensure-loaded-2
+    (λ c. search needs)  -- cast-ensure-loaded-2
     ensure-loaded-requires-2
     operate-requires
-    same-length
+    (λ c. search needs)  -- same-length
     returns)

@@ -18,22 +18,10 @@ Inv-loop t owner₀ freed place₀ buffer₀ from count counts₀ j₀ owner pla
 abbrev μ-loop : tie.MeasureT-loop
 μ-loop t owner₀ freed place₀ buffer₀ from count counts₀ j₀ owner place buffer counts j = outputs t - j
 
-closings-from-requires : tie.Need-closings-from-requires Inv-loop μ-loop
-closings-from-requires c κs = search needs
-
-shared-slice-read-outputs : tie.Need-shared-slice-read-outputs Inv-loop μ-loop
-shared-slice-read-outputs c = search needs
-
-cast-outputs : tie.Need-cast-outputs Inv-loop μ-loop
-cast-outputs c = search needs
-
 loop-holds : tie.Need-loop-holds Inv-loop μ-loop
 loop-holds c =
     let s = c .before .before .before .before in
     (omega arith, record { arrays = s .pre .1 .1 .1 .0; allocation = s .pre .1 .1 .1 .1 .0; kept = record { beyond = refl; long = refl } })
-
-output-reference-requires : tie.Need-output-reference-requires Inv-loop μ-loop
-output-reference-requires c κs = search needs
 
 ensure-loaded-requires : tie.Need-ensure-loaded-requires Inv-loop μ-loop
 ensure-loaded-requires c κs =
@@ -53,12 +41,6 @@ ensure-loaded-requires c κs =
         ),
       ),
     )
-
-add-j : tie.Need-add-j Inv-loop μ-loop
-add-j c = search needs
-
-loop-less : tie.Need-loop-less Inv-loop μ-loop
-loop-less c = search needs
 
 loop-again : tie.Need-loop-again Inv-loop μ-loop
 loop-again c =
@@ -85,4 +67,19 @@ returns c =
     represents-same (ap (outputsLoaded (decode t)) (e ∙ sym (outputs-length t))) (l .inv .1)
 
 pub load-outputs-spec : {M : Type 1} → statement M
-load-outputs-spec = tie.close (tie.spec Inv-loop μ-loop closings-from-requires shared-slice-read-outputs cast-outputs loop-holds output-reference-requires ensure-loaded-requires add-j loop-less loop-again same-length returns)
+load-outputs-spec =
+    tie.close
+    (tie.spec
+    Inv-loop
+    μ-loop
+    (λ c κs. search needs)  -- closings-from-requires
+    (λ c. search needs)  -- shared-slice-read-outputs
+    (λ c. search needs)  -- cast-outputs
+    loop-holds
+    (λ c κs. search needs)  -- output-reference-requires
+    ensure-loaded-requires
+    (λ c. search needs)  -- add-j
+    (λ c. search needs)  -- loop-less
+    loop-again
+    same-length
+    returns)

@@ -25,35 +25,11 @@ released c =
     releases (isUsedBehind (a .last .now) (a .number)) (a .gate) _ _ _ (c .before .before .before .before .before .release .ensures .1 (a .buffer .now))
     (c .release2 .ensures .1 (a .buffer .now))
 
-cast-left : tie.Need-cast-left
-cast-left c = search needs
-
-cast-right : tie.Need-cast-right
-cast-right c = search needs
-
-mul-a : tie.Need-mul-a
-mul-a c = search needs
-
-element-copy-out-a : tie.Need-element-copy-out-a
-element-copy-out-a c = search needs
-
 cast-a : tie.Need-cast-a
 cast-a c = omega (arith, c .before .before .before .before .pre .0 .near (c .before .before .before .before .args .gate .left))
 
-mul-b : tie.Need-mul-b
-mul-b c = search needs
-
-element-copy-out-b : tie.Need-element-copy-out-b
-element-copy-out-b c = search needs
-
 cast-b : tie.Need-cast-b
 cast-b c = omega (arith, c .before .before .before .before .before .pre .0 .near (c .before .before .before .before .before .args .gate .right))
-
-mul-keep-left : tie.Need-mul-keep-left
-mul-keep-left c = search needs
-
-element-copy-out-keep-left : tie.Need-element-copy-out-keep-left
-element-copy-out-keep-left c = search needs
 
 release-requires : tie.Need-release-requires
 release-requires c κs =
@@ -61,12 +37,6 @@ release-requires c κs =
     let a = s .args in
     let o = s .pre .1 .1 .0 in
     (s .pre .0, (omega arith, (o .left-there, λ e. omega (arith, o .left-room e, stack-length (a .freed .now) (a .counts .free)))))
-
-mul-keep-right : tie.Need-mul-keep-right
-mul-keep-right c = search needs
-
-element-copy-out-keep-right : tie.Need-element-copy-out-keep-right
-element-copy-out-keep-right c = search needs
 
 release-requires-2 : tie.Need-release-requires-2
 release-requires-2 c κs =
@@ -110,9 +80,6 @@ assign-register-requires c κs =
       ),
     )
 
-same-length : tie.Need-same-length
-same-length c = search needs
-
 returns : tie.Need-returns
 returns c =
     let s = c .before .before .before .before .before .before .before .before .before .before .before .before .before .before .before .before .before .before .before .before .before .before in
@@ -128,20 +95,20 @@ pub operate-spec : {M : Type 1} → statement M
 operate-spec =
     tie.close
     (tie.spec
-    cast-left
-    cast-right
-    mul-a
-    element-copy-out-a
+    (λ c. search needs)  -- cast-left
+    (λ c. search needs)  -- cast-right
+    (λ c. search needs)  -- mul-a
+    (λ c. search needs)  -- element-copy-out-a
     cast-a
-    mul-b
-    element-copy-out-b
+    (λ c. search needs)  -- mul-b
+    (λ c. search needs)  -- element-copy-out-b
     cast-b
-    mul-keep-left
-    element-copy-out-keep-left
+    (λ c. search needs)  -- mul-keep-left
+    (λ c. search needs)  -- element-copy-out-keep-left
     release-requires
-    mul-keep-right
-    element-copy-out-keep-right
+    (λ c. search needs)  -- mul-keep-right
+    (λ c. search needs)  -- element-copy-out-keep-right
     release-requires-2
     assign-register-requires
-    same-length
+    (λ c. search needs)  -- same-length
     returns)

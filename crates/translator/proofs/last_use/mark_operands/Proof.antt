@@ -16,52 +16,10 @@ Inv-loop t last₀ from gates i₀ last i = (i ≤ gates) × (length last ≡ ma
 abbrev μ-loop : tie.MeasureT-loop
 μ-loop t last₀ from gates i₀ last i = gates - i
 
-gates-from-requires : tie.Need-gates-from-requires Inv-loop μ-loop
-gates-from-requires c κs = search needs
-
-shared-slice-read-gates : tie.Need-shared-slice-read-gates Inv-loop μ-loop
-shared-slice-read-gates c = search needs
-
-cast-gates : tie.Need-cast-gates Inv-loop μ-loop
-cast-gates c = search needs
-
 loop-holds : tie.Need-loop-holds Inv-loop μ-loop
 loop-holds c =
     let s = c .before .before .before in
     (search needs, s .pre .1 .0, last-none (gateLines (s .args .t .now)) (s .args .last .now) (s .pre .1 .1))
-
-gate-line-requires : tie.Need-gate-line-requires Inv-loop μ-loop
-gate-line-requires c κs = search needs
-
-cast-number : tie.Need-cast-number Inv-loop μ-loop
-cast-number c = search needs
-
-add-number : tie.Need-add-number Inv-loop μ-loop
-add-number c = search needs
-
-cast-last : tie.Need-cast-last Inv-loop μ-loop
-cast-last c = search needs
-
-mul-last : tie.Need-mul-last Inv-loop μ-loop
-mul-last c = search needs
-
-element-write-last : tie.Need-element-write-last Inv-loop μ-loop
-element-write-last c = search needs
-
-cast-last-2 : tie.Need-cast-last-2 Inv-loop μ-loop
-cast-last-2 c = search needs
-
-mul-last-2 : tie.Need-mul-last-2 Inv-loop μ-loop
-mul-last-2 c = search needs
-
-element-write-last-2 : tie.Need-element-write-last-2 Inv-loop μ-loop
-element-write-last-2 c = search needs
-
-add-i : tie.Need-add-i Inv-loop μ-loop
-add-i c = search needs
-
-loop-less : tie.Need-loop-less Inv-loop μ-loop
-loop-less c = search needs
 
 loop-again : tie.Need-loop-again Inv-loop μ-loop
 loop-again c =
@@ -77,4 +35,25 @@ returns c =
     (last-all (c .before .before .before .before .before .args .t .now) (l .last) (l .i) (omega arith) (l .inv .2), l .inv .1)
 
 pub mark-operands-spec : {M : Type 1} → statement M
-mark-operands-spec = tie.close (tie.spec Inv-loop μ-loop gates-from-requires shared-slice-read-gates cast-gates loop-holds gate-line-requires cast-number add-number cast-last mul-last element-write-last cast-last-2 mul-last-2 element-write-last-2 add-i loop-less loop-again returns)
+mark-operands-spec =
+    tie.close
+    (tie.spec
+    Inv-loop
+    μ-loop
+    (λ c κs. search needs)  -- gates-from-requires
+    (λ c. search needs)  -- shared-slice-read-gates
+    (λ c. search needs)  -- cast-gates
+    loop-holds
+    (λ c κs. search needs)  -- gate-line-requires
+    (λ c. search needs)  -- cast-number
+    (λ c. search needs)  -- add-number
+    (λ c. search needs)  -- cast-last
+    (λ c. search needs)  -- mul-last
+    (λ c. search needs)  -- element-write-last
+    (λ c. search needs)  -- cast-last-2
+    (λ c. search needs)  -- mul-last-2
+    (λ c. search needs)  -- element-write-last-2
+    (λ c. search needs)  -- add-i
+    (λ c. search needs)  -- loop-less
+    loop-again
+    returns)

@@ -16,52 +16,10 @@ Inv-loop t last₀ from number distinct₀ i₀ last distinct i = (i ≤ outputs
 abbrev μ-loop : tie.MeasureT-loop
 μ-loop t last₀ from number distinct₀ i₀ last distinct i = i
 
-closings-from-requires : tie.Need-closings-from-requires Inv-loop μ-loop
-closings-from-requires c κs = search needs
-
-shared-slice-read-number : tie.Need-shared-slice-read-number Inv-loop μ-loop
-shared-slice-read-number c = search needs
-
-cast-number : tie.Need-cast-number Inv-loop μ-loop
-cast-number c = search needs
-
-add-number : tie.Need-add-number Inv-loop μ-loop
-add-number c = search needs
-
-shared-slice-read-i : tie.Need-shared-slice-read-i Inv-loop μ-loop
-shared-slice-read-i c = search needs
-
-cast-i : tie.Need-cast-i Inv-loop μ-loop
-cast-i c = search needs
-
 loop-holds : tie.Need-loop-holds Inv-loop μ-loop
 loop-holds c =
     let s = c .before .before .before .before in
     (search needs, s .pre .1 .0, search needs, uses-none (s .args .t .now) (s .args .last .now) (s .pre .1 .1))
-
-sub-i : tie.Need-sub-i Inv-loop μ-loop
-sub-i c = search needs
-
-output-reference-requires : tie.Need-output-reference-requires Inv-loop μ-loop
-output-reference-requires c κs = search needs
-
-mul-if1 : tie.Need-mul-if1 Inv-loop μ-loop
-mul-if1 c = search needs
-
-element-copy-out-if1 : tie.Need-element-copy-out-if1 Inv-loop μ-loop
-element-copy-out-if1 c = search needs
-
-mul-last : tie.Need-mul-last Inv-loop μ-loop
-mul-last c = search needs
-
-element-write-last : tie.Need-element-write-last Inv-loop μ-loop
-element-write-last c = search needs
-
-add-distinct : tie.Need-add-distinct Inv-loop μ-loop
-add-distinct c = search needs
-
-loop-less : tie.Need-loop-less Inv-loop μ-loop
-loop-less c = search needs
 
 loop-again : tie.Need-loop-again Inv-loop μ-loop
 loop-again c =
@@ -72,9 +30,6 @@ loop-again c =
       search needs,
       uses-new t (l .last) (l .distinct) (l .i) (l .i - 1) _ (l .inv .3) (omega arith) (omega arith) (c .before .before .output-reference .ensures .0) (c .if1 .taken) (search needs),
     )
-
-loop-less-2 : tie.Need-loop-less-2 Inv-loop μ-loop
-loop-less-2 c = search needs
 
 loop-again-2 : tie.Need-loop-again-2 Inv-loop μ-loop
 loop-again-2 c =
@@ -93,4 +48,27 @@ returns c =
     (all .0, (all .1, l .inv .1))
 
 pub mark-outputs-spec : {M : Type 1} → statement M
-mark-outputs-spec = tie.close (tie.spec Inv-loop μ-loop closings-from-requires shared-slice-read-number cast-number add-number shared-slice-read-i cast-i loop-holds sub-i output-reference-requires mul-if1 element-copy-out-if1 mul-last element-write-last add-distinct loop-less loop-again loop-less-2 loop-again-2 returns)
+mark-outputs-spec =
+    tie.close
+    (tie.spec
+    Inv-loop
+    μ-loop
+    (λ c κs. search needs)  -- closings-from-requires
+    (λ c. search needs)  -- shared-slice-read-number
+    (λ c. search needs)  -- cast-number
+    (λ c. search needs)  -- add-number
+    (λ c. search needs)  -- shared-slice-read-i
+    (λ c. search needs)  -- cast-i
+    loop-holds
+    (λ c. search needs)  -- sub-i
+    (λ c κs. search needs)  -- output-reference-requires
+    (λ c. search needs)  -- mul-if1
+    (λ c. search needs)  -- element-copy-out-if1
+    (λ c. search needs)  -- mul-last
+    (λ c. search needs)  -- element-write-last
+    (λ c. search needs)  -- add-distinct
+    (λ c. search needs)  -- loop-less
+    loop-again
+    (λ c. search needs)  -- loop-less-2
+    loop-again-2
+    returns)

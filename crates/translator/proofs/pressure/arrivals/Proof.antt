@@ -22,33 +22,6 @@ loads c =
     let g = c .before .before .before .before .before .before .gate-line in
     (arrivals-read (decode (s .args .t .now)) (s .args .unloaded .now) (s .args .i) (s .pre .1 .1 .1 .1) (g .result) (search needs), arrivals-few _ _ _)
 
-gate-line-requires : tie.Need-gate-line-requires
-gate-line-requires c κs = search needs
-
-cast-left : tie.Need-cast-left
-cast-left c = search needs
-
-element-copy-out-left : tie.Need-element-copy-out-left
-element-copy-out-left c = search needs
-
-cast-unloaded : tie.Need-cast-unloaded
-cast-unloaded c = search needs
-
-element-write-unloaded : tie.Need-element-write-unloaded
-element-write-unloaded c = search needs
-
-cast-right : tie.Need-cast-right
-cast-right c = search needs
-
-element-copy-out-right : tie.Need-element-copy-out-right
-element-copy-out-right c = search needs
-
-cast-unloaded-2 : tie.Need-cast-unloaded-2
-cast-unloaded-2 c = search needs
-
-element-write-unloaded-2 : tie.Need-element-write-unloaded-2
-element-write-unloaded-2 c = search needs
-
 cast-result : tie.Need-cast-result
 cast-result c = omega (arith, loads c .0, loads c .1)
 
@@ -69,4 +42,19 @@ returns c =
     )
 
 pub arrivals-spec : {M : Type 1} → statement M
-arrivals-spec = tie.close (tie.spec gate-line-requires cast-left element-copy-out-left cast-unloaded element-write-unloaded cast-right element-copy-out-right cast-unloaded-2 element-write-unloaded-2 cast-result cast-result-2 add-result returns)
+arrivals-spec =
+    tie.close
+    (tie.spec
+    (λ c κs. search needs)  -- gate-line-requires
+    (λ c. search needs)  -- cast-left
+    (λ c. search needs)  -- element-copy-out-left
+    (λ c. search needs)  -- cast-unloaded
+    (λ c. search needs)  -- element-write-unloaded
+    (λ c. search needs)  -- cast-right
+    (λ c. search needs)  -- element-copy-out-right
+    (λ c. search needs)  -- cast-unloaded-2
+    (λ c. search needs)  -- element-write-unloaded-2
+    cast-result
+    cast-result-2
+    add-result
+    returns)

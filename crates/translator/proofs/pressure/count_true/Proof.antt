@@ -22,12 +22,6 @@ few true false = omega arith
 few false true = omega arith
 few false false = omega arith
 
-cast-result : tie.Need-cast-result
-cast-result c = search needs
-
-cast-result-2 : tie.Need-cast-result-2
-cast-result-2 c = search needs
-
 add-result : tie.Need-add-result
 add-result c = record { fits = few (c .args .a) (c .args .b) }
 
@@ -35,4 +29,10 @@ returns : tie.Need-returns
 returns c = both (c .args .a) (c .args .b)
 
 pub count-true-spec : {M : Type 1} → statement M
-count-true-spec = tie.close (tie.spec cast-result cast-result-2 add-result returns)
+count-true-spec =
+    tie.close
+    (tie.spec
+    (λ c. search needs)  -- cast-result
+    (λ c. search needs)  -- cast-result-2
+    add-result
+    returns)

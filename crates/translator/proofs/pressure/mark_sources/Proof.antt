@@ -18,26 +18,8 @@ Inv-loop t unloaded₀ first-gate v₀ unloaded v = (v ≤ first-gate) × (lengt
 abbrev μ-loop : tie.MeasureT-loop
 μ-loop t unloaded₀ first-gate v₀ unloaded v = first-gate - v
 
-shared-slice-read-first-gate : tie.Need-shared-slice-read-first-gate Inv-loop μ-loop
-shared-slice-read-first-gate c = search needs
-
-add-first-gate : tie.Need-add-first-gate Inv-loop μ-loop
-add-first-gate c = search needs
-
-cast-first-gate : tie.Need-cast-first-gate Inv-loop μ-loop
-cast-first-gate c = search needs
-
 loop-holds : tie.Need-loop-holds Inv-loop μ-loop
 loop-holds c = (search needs, c .before .pre .1 .0, marked-none (c .before .args .unloaded .now) (c .before .pre .1 .1))
-
-element-write-unloaded : tie.Need-element-write-unloaded Inv-loop μ-loop
-element-write-unloaded c = search needs
-
-add-v : tie.Need-add-v Inv-loop μ-loop
-add-v c = search needs
-
-loop-less : tie.Need-loop-less Inv-loop μ-loop
-loop-less c = search needs
 
 loop-again : tie.Need-loop-again Inv-loop μ-loop
 loop-again c =
@@ -52,4 +34,17 @@ returns c =
     (unloaded-none (decode t) (l .unloaded) (λ v. l .inv .2 v ∙ ap (λ k. oneIf (ltb v k)) e), l .inv .1)
 
 pub mark-sources-spec : {M : Type 1} → statement M
-mark-sources-spec = tie.close (tie.spec Inv-loop μ-loop shared-slice-read-first-gate add-first-gate cast-first-gate loop-holds element-write-unloaded add-v loop-less loop-again returns)
+mark-sources-spec =
+    tie.close
+    (tie.spec
+    Inv-loop
+    μ-loop
+    (λ c. search needs)  -- shared-slice-read-first-gate
+    (λ c. search needs)  -- add-first-gate
+    (λ c. search needs)  -- cast-first-gate
+    loop-holds
+    (λ c. search needs)  -- element-write-unloaded
+    (λ c. search needs)  -- add-v
+    (λ c. search needs)  -- loop-less
+    loop-again
+    returns)

@@ -16,15 +16,6 @@ Inv-loop t last unloaded₀ from gates held₀ most₀ i₀ unloaded held most i
 abbrev μ-loop : tie.MeasureT-loop
 μ-loop t last unloaded₀ from gates held₀ most₀ i₀ unloaded held most i = gates - i
 
-gates-from-requires : tie.Need-gates-from-requires Inv-loop μ-loop
-gates-from-requires c κs = search needs
-
-shared-slice-read-gates : tie.Need-shared-slice-read-gates Inv-loop μ-loop
-shared-slice-read-gates c = search needs
-
-cast-gates : tie.Need-cast-gates Inv-loop μ-loop
-cast-gates c = search needs
-
 loop-holds : tie.Need-loop-holds Inv-loop μ-loop
 loop-holds c =
     let s = c .before .before .before in
@@ -41,12 +32,6 @@ add-before c =
       arith,
       arrivals-fit (s .args .t .now) (l .held) (l .most) (l .i) (c .arrivals .result) (l .inv .3) (c .arrivals .ensures .0) (s .pre .0) (s .pre .1 .0) (c .before .before .loop-test .taken),
     )
-
-larger-requires : tie.Need-larger-requires Inv-loop μ-loop
-larger-requires c κs = search needs
-
-kept-operands-requires : tie.Need-kept-operands-requires Inv-loop μ-loop
-kept-operands-requires c κs = search needs
 
 add-held : tie.Need-add-held Inv-loop μ-loop
 add-held c =
@@ -68,12 +53,6 @@ sub-held c =
       c .kept-operands .ensures,
     )
 
-add-i : tie.Need-add-i Inv-loop μ-loop
-add-i c = search needs
-
-loop-less : tie.Need-loop-less Inv-loop μ-loop
-loop-less c = search needs
-
 loop-again : tie.Need-loop-again Inv-loop μ-loop
 loop-again c =
     let s = c .before .before .before .before .before .before .before .before .before in
@@ -85,13 +64,29 @@ loop-again c =
       held-more (s .args .t .now) (l .held) (l .most) (l .i) (a .result) (l .inv .3) (a .ensures .0) (s .pre .0) (s .pre .1 .0) (c .before .before .before .before .loop-test .taken) (c .kept-operands .result) (c .before .larger .result) (c .kept-operands .ensures) (c .before .larger .ensures),
     )
 
-larger-requires-2 : tie.Need-larger-requires-2 Inv-loop μ-loop
-larger-requires-2 c κs = search needs
-
 returns : tie.Need-returns Inv-loop μ-loop
 returns c =
     let l = c .before .before .loop in
     held-all (c .before .before .before .before .before .before .args .t .now) (l .held) (l .most) (l .i) (c .larger2 .result) (omega arith) (l .inv .3) (c .larger2 .ensures)
 
 pub most-held-spec : {M : Type 1} → statement M
-most-held-spec = tie.close (tie.spec Inv-loop μ-loop gates-from-requires shared-slice-read-gates cast-gates loop-holds arrivals-requires add-before larger-requires kept-operands-requires add-held sub-held add-i loop-less loop-again larger-requires-2 returns)
+most-held-spec =
+    tie.close
+    (tie.spec
+    Inv-loop
+    μ-loop
+    (λ c κs. search needs)  -- gates-from-requires
+    (λ c. search needs)  -- shared-slice-read-gates
+    (λ c. search needs)  -- cast-gates
+    loop-holds
+    arrivals-requires
+    add-before
+    (λ c κs. search needs)  -- larger-requires
+    (λ c κs. search needs)  -- kept-operands-requires
+    add-held
+    sub-held
+    (λ c. search needs)  -- add-i
+    (λ c. search needs)  -- loop-less
+    loop-again
+    (λ c κs. search needs)  -- larger-requires-2
+    returns)

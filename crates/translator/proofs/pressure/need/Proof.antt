@@ -17,13 +17,16 @@ most-held-requires c κs =
     let m = c .before .mark-sources .ensures in
     (s .pre .0, (s .pre .1 .0, (s .pre .1 .1 .1 .0, (m .1, m .0))))
 
-larger-requires : tie.Need-larger-requires
-larger-requires c κs = search needs
-
 returns : tie.Need-returns
 returns c =
     let s = c .before .before .before .before .before .before in
     need-read (s .args .t .now) (c .before .most-held .result) (s .args .distinct) (c .larger .result) (c .before .most-held .ensures) (s .pre .1 .1 .1 .1) (c .larger .ensures)
 
 pub need-spec : {M : Type 1} → statement M
-need-spec = tie.close (tie.spec mark-sources-requires most-held-requires larger-requires returns)
+need-spec =
+    tie.close
+    (tie.spec
+    mark-sources-requires
+    most-held-requires
+    (λ c κs. search needs)  -- larger-requires
+    returns)

@@ -15,9 +15,6 @@ use borrow.Author.Needs.{needs}
 use Rattle.translator.proofs.program.translate_in.Statement.{statement}
 use Rattle.translator.proofs.program.translate_in.Tie as tie
 
-trim-requires : tie.Need-trim-requires
-trim-requires c κs = search needs
-
 slice-reshare-prefix-translate-trimmed : tie.Need-slice-reshare-prefix-translate-trimmed
 slice-reshare-prefix-translate-trimmed c =
     let r = c .before .before .trim in
@@ -38,12 +35,6 @@ translate-trimmed-requires c κs =
       (ap (λ x. trim (decode x)) e ∙ trimmed-again t (s .pre .0) ∙ sym (ap decode e), (s .pre .1 .0, s .pre .1 .1 .1)),
     )
 
-same-length : tie.Need-same-length
-same-length c = search needs
-
-same-length-2 : tie.Need-same-length-2
-same-length-2 c = search needs
-
 returns : tie.Need-returns
 returns c =
     let s = c .before .before .before .before .before .before .before .before .before .before .before .before in
@@ -56,4 +47,13 @@ returns c =
     (ap (λ x. f (decode x)) (front-is (trimOf t) _ (r .last .1 .0) (r .ensures .0) (r .result) (r .ensures .1)) ∙ ap f (decode-trim t (s .pre .0)))
 
 pub translate-in-spec : {M : Type 1} → statement M
-translate-in-spec = tie.close (tie.spec trim-requires slice-reshare-prefix-translate-trimmed slice-aggregate-translate-trimmed translate-trimmed-requires same-length same-length-2 returns)
+translate-in-spec =
+    tie.close
+    (tie.spec
+    (λ c κs. search needs)  -- trim-requires
+    slice-reshare-prefix-translate-trimmed
+    slice-aggregate-translate-trimmed
+    translate-trimmed-requires
+    (λ c. search needs)  -- same-length
+    (λ c. search needs)  -- same-length-2
+    returns)

@@ -25,12 +25,6 @@ needed c =
 last-uses-requires : tie.Need-last-uses-requires
 last-uses-requires c κs = (c .before .before .before .pre .0, (length-replicate {A = ℕ} maxReferences 0, zeros-at maxReferences))
 
-need-requires : tie.Need-need-requires
-need-requires c κs = search needs
-
-refuse-requires : tie.Need-refuse-requires
-refuse-requires c κs = search needs
-
 returns : tie.Need-returns
 returns c =
     let a = c .before .before .before .before .before .before .before .before .args in
@@ -48,9 +42,6 @@ cast-t15 c =
     let t = s .args .t .now in
     omega (arith, c .before .before .write-program .ensures .0, program-limit (decode t) (trimmed-fixed t (s .pre .0) (s .pre .1 .0)) (limited-decode t (s .pre .0 .sized)))
 
-same-length : tie.Need-same-length
-same-length c = search needs
-
 returns-2 : tie.Need-returns-2
 returns-2 c =
     let a = c .before .before .before .before .before .before .before .before .before .before .before .before .args in
@@ -62,10 +53,10 @@ translate-trimmed-spec =
     tie.close
     (tie.spec
     last-uses-requires
-    need-requires
-    refuse-requires
+    (λ c κs. search needs)  -- need-requires
+    (λ c κs. search needs)  -- refuse-requires
     returns
     write-program-requires
     cast-t15
-    same-length
+    (λ c. search needs)  -- same-length
     returns-2)

@@ -17,43 +17,16 @@ Inv-loop t place buffer₀ start from count j₀ buffer j = (j ≤ outputs t) ×
 abbrev μ-loop : tie.MeasureT-loop
 μ-loop t place buffer₀ start from count j₀ buffer j = outputs t - j
 
-closings-from-requires : tie.Need-closings-from-requires Inv-loop μ-loop
-closings-from-requires c κs = search needs
-
-shared-slice-read-count : tie.Need-shared-slice-read-count Inv-loop μ-loop
-shared-slice-read-count c = search needs
-
-cast-count : tie.Need-cast-count Inv-loop μ-loop
-cast-count c = search needs
-
 loop-holds : tie.Need-loop-holds Inv-loop μ-loop
 loop-holds c =
     let a = c .before .before .before .before .args in
     (omega arith, emitted-none (λ v. emitting (getD (a .place .now) v 0)) (decode (a .t .now) .outputs) (a .start) (a .buffer .now))
-
-output-reference-requires : tie.Need-output-reference-requires Inv-loop μ-loop
-output-reference-requires c κs = search needs
-
-add-write-instruction : tie.Need-add-write-instruction Inv-loop μ-loop
-add-write-instruction c = search needs
-
-mul-write-instruction : tie.Need-mul-write-instruction Inv-loop μ-loop
-mul-write-instruction c = search needs
-
-element-copy-out-write-instruction : tie.Need-element-copy-out-write-instruction Inv-loop μ-loop
-element-copy-out-write-instruction c = search needs
 
 cast-write-instruction : tie.Need-cast-write-instruction Inv-loop μ-loop
 cast-write-instruction c = omega (arith, c .before .before .before .before .before .before .before .before .before .pre .1 .0 (c .before .before .output-reference .result))
 
 write-instruction-requires : tie.Need-write-instruction-requires Inv-loop μ-loop
 write-instruction-requires c κs = omega (arith, c .before .before .before .before .before .before .before .before .before .pre .1 .1, c .before .before .before .before .loop .inv .1 .beyond .long, c .before .before .before .loop-test .taken)
-
-add-j : tie.Need-add-j Inv-loop μ-loop
-add-j c = search needs
-
-loop-less : tie.Need-loop-less Inv-loop μ-loop
-loop-less c = search needs
 
 loop-again : tie.Need-loop-again Inv-loop μ-loop
 loop-again c =
@@ -69,9 +42,6 @@ loop-again c =
           (omega (arith, s .pre .1 .1, l .inv .1 .beyond .long, h)) (w .last .0) (w .ensures),
     )
 
-add-result : tie.Need-add-result Inv-loop μ-loop
-add-result c = search needs
-
 same-length : tie.Need-same-length Inv-loop μ-loop
 same-length c = c .before .loop .inv .1 .beyond .long
 
@@ -85,4 +55,24 @@ returns c =
     (sym (outputs-length t))
 
 pub write-emits-spec : {M : Type 1} → statement M
-write-emits-spec = tie.close (tie.spec Inv-loop μ-loop closings-from-requires shared-slice-read-count cast-count loop-holds output-reference-requires add-write-instruction mul-write-instruction element-copy-out-write-instruction cast-write-instruction write-instruction-requires add-j loop-less loop-again add-result same-length returns)
+write-emits-spec =
+    tie.close
+    (tie.spec
+    Inv-loop
+    μ-loop
+    (λ c κs. search needs)  -- closings-from-requires
+    (λ c. search needs)  -- shared-slice-read-count
+    (λ c. search needs)  -- cast-count
+    loop-holds
+    (λ c κs. search needs)  -- output-reference-requires
+    (λ c. search needs)  -- add-write-instruction
+    (λ c. search needs)  -- mul-write-instruction
+    (λ c. search needs)  -- element-copy-out-write-instruction
+    cast-write-instruction
+    write-instruction-requires
+    (λ c. search needs)  -- add-j
+    (λ c. search needs)  -- loop-less
+    loop-again
+    (λ c. search needs)  -- add-result
+    same-length
+    returns)

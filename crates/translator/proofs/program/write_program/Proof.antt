@@ -48,9 +48,6 @@ write-emits-requires c κs =
       ),
     )
 
-same-length : tie.Need-same-length
-same-length c = search needs
-
 returns : tie.Need-returns
 returns c =
     let s = c .before .before .before .before .before .before .before .before .before .before .before .before .before .before .before .before .before .before .before .before .before in
@@ -70,5 +67,5 @@ write-program-spec =
     allocate-gates-requires
     load-outputs-requires
     write-emits-requires
-    same-length
+    (λ c. search needs)  -- same-length
     returns)

@@ -20,44 +20,11 @@ inside c =
       s .pre .1 .1 .1 .0,
     )
 
-next-register-requires : tie.Need-next-register-requires
-next-register-requires c κs = search needs
-
-cast-owner : tie.Need-cast-owner
-cast-owner c = search needs
-
-add-owner : tie.Need-add-owner
-add-owner c = search needs
-
-cast-owner-2 : tie.Need-cast-owner-2
-cast-owner-2 c = search needs
-
-mul-owner : tie.Need-mul-owner
-mul-owner c = search needs
-
 element-write-owner : tie.Need-element-write-owner
 element-write-owner c = inside c
 
-mul-place : tie.Need-mul-place
-mul-place c = search needs
-
-element-write-place : tie.Need-element-write-place
-element-write-place c = search needs
-
 cast-write-instruction : tie.Need-cast-write-instruction
 cast-write-instruction c = omega (arith, inside (c .before))
-
-write-instruction-requires : tie.Need-write-instruction-requires
-write-instruction-requires c κs = search needs
-
-add-counts-after : tie.Need-add-counts-after
-add-counts-after c = search needs
-
-counts-after-requires : tie.Need-counts-after-requires
-counts-after-requires c κs = search needs
-
-same-length : tie.Need-same-length
-same-length c = search needs
 
 returns : tie.Need-returns
 returns c =
@@ -71,17 +38,17 @@ pub assign-register-spec : {M : Type 1} → statement M
 assign-register-spec =
     tie.close
     (tie.spec
-    next-register-requires
-    cast-owner
-    add-owner
-    cast-owner-2
-    mul-owner
+    (λ c κs. search needs)  -- next-register-requires
+    (λ c. search needs)  -- cast-owner
+    (λ c. search needs)  -- add-owner
+    (λ c. search needs)  -- cast-owner-2
+    (λ c. search needs)  -- mul-owner
     element-write-owner
-    mul-place
-    element-write-place
+    (λ c. search needs)  -- mul-place
+    (λ c. search needs)  -- element-write-place
     cast-write-instruction
-    write-instruction-requires
-    add-counts-after
-    counts-after-requires
-    same-length
+    (λ c κs. search needs)  -- write-instruction-requires
+    (λ c. search needs)  -- add-counts-after
+    (λ c κs. search needs)  -- counts-after-requires
+    (λ c. search needs)  -- same-length
     returns)

@@ -6,20 +6,8 @@ use Rattle.lists.proofs.First.{first-true, first-false}
 use Rattle.translator.proofs.registers.next_register.Statement.{statement}
 use Rattle.translator.proofs.registers.next_register.Tie as tie
 
-cast-result : tie.Need-cast-result
-cast-result c = search needs
-
 returns : tie.Need-returns
 returns c = sym (first-true _ _ (eq-eqb _ 0 (c .before .if1 .taken)))
-
-sub-result : tie.Need-sub-result
-sub-result c = search needs
-
-mul-result : tie.Need-mul-result
-mul-result c = search needs
-
-element-copy-out-result : tie.Need-element-copy-out-result
-element-copy-out-result c = search needs
 
 returns-2 : tie.Need-returns-2
 returns-2 c = sym (first-false _ _ (ne-eqb _ 0 (c .before .before .if1 .left)))
@@ -27,4 +15,10 @@ returns-2 c = sym (first-false _ _ (ne-eqb _ 0 (c .before .before .if1 .left)))
 pub next-register-spec : {M : Type 1} → statement M
 next-register-spec =
     tie.close
-    (tie.spec cast-result returns sub-result mul-result element-copy-out-result returns-2)
+    (tie.spec
+    (λ c. search needs)  -- cast-result
+    returns
+    (λ c. search needs)  -- sub-result
+    (λ c. search needs)  -- mul-result
+    (λ c. search needs)  -- element-copy-out-result
+    returns-2)

@@ -8,12 +8,6 @@ use Rattle.translator.proofs.registers.release.Tie as tie
 returns : tie.Need-returns
 returns c = (c .before .pre .0, λ p. release-none (c .before .args .keep) (c .before .args .v) _ (c .if1 .taken))
 
-mul-d : tie.Need-mul-d
-mul-d c = search needs
-
-element-copy-out-d : tie.Need-element-copy-out-d
-element-copy-out-d c = search needs
-
 cast-owner : tie.Need-cast-owner
 cast-owner c = omega (arith, c .before .before .pre .0 .near (c .before .before .args .v))
 
@@ -23,14 +17,8 @@ mul-owner c = omega (arith, c .before .before .pre .0 .near (c .before .before .
 element-write-owner : tie.Need-element-write-owner
 element-write-owner c = omega (arith, c .before .before .pre .0 .near (c .before .before .args .v))
 
-mul-freed : tie.Need-mul-freed
-mul-freed c = search needs
-
 element-write-freed : tie.Need-element-write-freed
 element-write-freed c = omega (arith, c .before .before .pre .1 .1 .1 (c .before .if1 .left))
-
-add-t14 : tie.Need-add-t14
-add-t14 c = search needs
 
 returns-2 : tie.Need-returns-2
 returns-2 c =
@@ -45,12 +33,12 @@ release-spec =
     tie.close
     (tie.spec
     returns
-    mul-d
-    element-copy-out-d
+    (λ c. search needs)  -- mul-d
+    (λ c. search needs)  -- element-copy-out-d
     cast-owner
     mul-owner
     element-write-owner
-    mul-freed
+    (λ c. search needs)  -- mul-freed
     element-write-freed
-    add-t14
+    (λ c. search needs)  -- add-t14
     returns-2)

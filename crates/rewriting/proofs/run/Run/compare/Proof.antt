@@ -5,9 +5,6 @@ use Rattle.rewriting.proofs.RunStateLaws.{compared-lower, compared-othe
 use Rattle.rewriting.proofs.run.Run.compare.Statement.{statement}
 use Rattle.rewriting.proofs.run.Run.compare.Tie as tie
 
-add-kept : tie.Need-add-kept
-add-kept c = search needs
-
 returns : tie.Need-returns
 unfolding isLower
 returns c = compared-lower _ _ (c .before .if1 .taken)
@@ -17,4 +14,9 @@ unfolding isLower
 returns-2 c = compared-other _ _ (c .if1 .left)
 
 pub compare-spec : {M : Type 1} → statement M
-compare-spec = tie.close (tie.spec add-kept returns returns-2)
+compare-spec =
+    tie.close
+    (tie.spec
+    (λ c. search needs)  -- add-kept
+    returns
+    returns-2)

@@ -22,15 +22,6 @@ trim-by-reverse-depths-requires c κs =
     let u = s .pre .1 .1 .1 .0 in
     (w, (u .0, (u .1, (s .pre .1 .1 .0 .0, omega (arith, w .sized, starts-are-inputs (s .args .kept .now) w, s .pre .1 .1 .1 .1 .1)))))
 
-same-length : tie.Need-same-length
-same-length c = search needs
-
-same-length-2 : tie.Need-same-length-2
-same-length-2 c = search needs
-
-same-length-3 : tie.Need-same-length-3
-same-length-3 c = search needs
-
 returns : tie.Need-returns
 returns c =
     let s = c .before .before .before .before .before .before .before .before .before .before .before .before .before .before .before .before .before in
@@ -51,7 +42,7 @@ keep-spec =
     (tie.spec
     trim-depths-requires
     trim-by-reverse-depths-requires
-    same-length
-    same-length-2
-    same-length-3
+    (λ c. search needs)  -- same-length
+    (λ c. search needs)  -- same-length-2
+    (λ c. search needs)  -- same-length-3
     returns)

@@ -19,18 +19,6 @@ copy-over-requires c κs =
     let s = c .before .before .before .before .before .before .before in
     omega (arith, length-take-le (s .args .gate) (s .args .current .now) (omega (arith, c .before .before .before .before .before .before .before .pre .1 .0 .1, c .before .before .before .before .before .before .before .pre .0 .sized, c .before .before .before .before .before .before .before .pre .1 .1 .1 .1 .0)), s .pre .1 .0 .1, s .pre .0 .sized, s .pre .1 .1 .1 .0 .0)
 
-shared-slice-read-depths-from : tie.Need-shared-slice-read-depths-from
-shared-slice-read-depths-from c = search needs
-
-add-depths-from : tie.Need-add-depths-from
-add-depths-from c = search needs
-
-sub-depths-from : tie.Need-sub-depths-from
-sub-depths-from c = search needs
-
-cast-depths-from : tie.Need-cast-depths-from
-cast-depths-from c = search needs
-
 depths-from-requires : tie.Need-depths-from-requires
 depths-from-requires c κs =
     let s = c .before .before .before .before .before .before .before .before .before .before .before .before in
@@ -47,18 +35,6 @@ settle-requires c κs =
     let k = c .before .before .before .before .before .before .before .before .before .before .before .copy-over in
     (w, ((omega (arith, w .sized, s .pre .1 .1 .1 .0 .0, k .kept .1 .0, d .kept .1 .1 .0), depths-front (s .args .candidate .now) _ _ (d .ensures)), ((s .pre .1 .1 .1 .0 .1, s .pre .1 .1 .1 .1 .0), (s .pre .1 .1 .1 .1 .1 .0, (s .pre .1 .1 .1 .1 .1 .1 .0, s .pre .1 .1 .1 .1 .1 .1 .1)))))
 
-same-length : tie.Need-same-length
-same-length c = search needs
-
-same-length-2 : tie.Need-same-length-2
-same-length-2 c = search needs
-
-same-length-3 : tie.Need-same-length-3
-same-length-3 c = search needs
-
-same-length-4 : tie.Need-same-length-4
-same-length-4 c = search needs
-
 returns : tie.Need-returns
 returns c = c .before .before .before .before .before .before .before .before .settle .ensures
 
@@ -69,14 +45,14 @@ measure-and-settle-spec =
     slice-reshare-prefix-copy-over
     slice-aggregate-copy-over
     copy-over-requires
-    shared-slice-read-depths-from
-    add-depths-from
-    sub-depths-from
-    cast-depths-from
+    (λ c. search needs)  -- shared-slice-read-depths-from
+    (λ c. search needs)  -- add-depths-from
+    (λ c. search needs)  -- sub-depths-from
+    (λ c. search needs)  -- cast-depths-from
     depths-from-requires
     settle-requires
-    same-length
-    same-length-2
-    same-length-3
-    same-length-4
+    (λ c. search needs)  -- same-length
+    (λ c. search needs)  -- same-length-2
+    (λ c. search needs)  -- same-length-3
+    (λ c. search needs)  -- same-length-4
     returns)

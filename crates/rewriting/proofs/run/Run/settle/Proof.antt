@@ -13,9 +13,6 @@ output-depth-requires c κs =
     let s = c .before .before .before .before .before .before in
     (s .pre .0, (s .pre .1 .0 .0, s .pre .1 .0 .1))
 
-same-length : tie.Need-same-length
-same-length c = search needs
-
 returns : tie.Need-returns
 returns c =
     let s = c .before .before .before .before .before .before .before .before .before in
@@ -25,9 +22,6 @@ critical-with-reverse-depths-requires : tie.Need-critical-with-reverse-depths-re
 critical-with-reverse-depths-requires c κs =
     let s = c .before .before .before .before .before .before .before .before .before .before .before in
     (s .pre .0, (s .pre .1 .0 .0, (omega (arith, s .pre .0 .sized, s .pre .1 .1 .0 .0), (s .pre .1 .0 .1, c .before .before .before .before .output-depth .ensures))))
-
-compare-requires : tie.Need-compare-requires
-compare-requires c κs = search needs
 
 keep-requires : tie.Need-keep-requires
 keep-requires c κs =
@@ -43,12 +37,6 @@ keep-requires c κs =
       (kept-pair (a .self) (a .candidate .now) (a .work .now) (s .pre .0) (s .pre .1 .1 .1 .0) new p (x .result) (x .ensures) r, (s .pre .1 .0, ((omega (arith, s .pre .0 .sized, s .pre .1 .1 .0 .0, n .kept .1 .1 .1 .0), reverse-front (a .candidate .now) _ _ (n .ensures .1)), (s .pre .1 .1 .0 .1, s .pre .1 .1 .1 .0 .room)))),
     )
 
-same-length-2 : tie.Need-same-length-2
-same-length-2 c = search needs
-
-same-length-3 : tie.Need-same-length-3
-same-length-3 c = search needs
-
 returns-2 : tie.Need-returns-2
 returns-2 c =
     let s = c .before .before .before .before .before .before .before .before .before .before .before .before .before .before .before .before in
@@ -60,18 +48,6 @@ returns-2 c =
     let p = ap₂ {C = DepthPair} (λ u v. record { depth = u; critical = v }) (d .ensures) (n .ensures .0) in
     let (e, h, l) = settled-left (a .self) (a .candidate .now) (a .work .now) (s .pre .0) (s .pre .1 .1 .1 .0) new p (x .result) (x .ensures) (c .match .keys1) _ (s .pre .1 .1 .1 .1 .0) in
     (e, (h, l))
-
-same-length-4 : tie.Need-same-length-4
-same-length-4 c = search needs
-
-same-length-5 : tie.Need-same-length-5
-same-length-5 c = search needs
-
-same-length-6 : tie.Need-same-length-6
-same-length-6 c = search needs
-
-same-length-7 : tie.Need-same-length-7
-same-length-7 c = search needs
 
 returns-3 : tie.Need-returns-3
 returns-3 c =
@@ -90,16 +66,16 @@ settle-spec =
     tie.close
     (tie.spec
     output-depth-requires
-    same-length
+    (λ c. search needs)  -- same-length
     returns
     critical-with-reverse-depths-requires
-    compare-requires
+    (λ c κs. search needs)  -- compare-requires
     keep-requires
-    same-length-2
-    same-length-3
+    (λ c. search needs)  -- same-length-2
+    (λ c. search needs)  -- same-length-3
     returns-2
-    same-length-4
-    same-length-5
-    same-length-6
-    same-length-7
+    (λ c. search needs)  -- same-length-4
+    (λ c. search needs)  -- same-length-5
+    (λ c. search needs)  -- same-length-6
+    (λ c. search needs)  -- same-length-7
     returns-3)

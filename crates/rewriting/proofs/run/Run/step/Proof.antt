@@ -64,9 +64,6 @@ new c = encode (replace (decode (table (c .before .before .before .before .befor
 made : (c : tie.After-replace) → take (c .replace .result) (c .replace .last .1 .1 .1 .1 .1 .0) ≡ new c
 made c = front-is (new c) (c .before .before .before .before .before .before .before .before .before .before .before .before .before .before .before .before .args .candidate .now) (c .replace .last .1 .1 .1 .1 .1 .0) (c .replace .ensures .0) (c .replace .result) (c .replace .ensures .1)
 
-judged-once-requires : tie.Need-judged-once-requires
-judged-once-requires c κs = search needs
-
 slice-reshare-prefix-match-within : tie.Need-slice-reshare-prefix-match-within
 slice-reshare-prefix-match-within c = c .before .before .before .before .before .before .before .before .pre .1 .1 .1 .1 .1 .0 .within
 
@@ -114,30 +111,12 @@ measure-and-settle-requires c κs =
       ),
     )
 
-same-length : tie.Need-same-length
-same-length c = search needs
-
 returns : tie.Need-returns
 returns c =
     let s = c .before .before .before .before .before .before .before .before .before .before .before .before .before in (
       step-before (s .args .rules .now) (stateOf (s .args .self) (s .args .work .now)) (site (c .before .before)) (c .before .before .match-within .result) (verdict (c .before .before)) (λ e. omega arith),
       (s .pre .1 .1 .1 .1 .1 .0, (s .pre .1 .1 .1 .1 .1 .1 .0, c .before .before .before .before .before .judged-once .ensures .1)),
     )
-
-same-length-2 : tie.Need-same-length-2
-same-length-2 c = search needs
-
-same-length-3 : tie.Need-same-length-3
-same-length-3 c = search needs
-
-same-length-4 : tie.Need-same-length-4
-same-length-4 c = search needs
-
-same-length-5 : tie.Need-same-length-5
-same-length-5 c = search needs
-
-same-length-6 : tie.Need-same-length-6
-same-length-6 c = search needs
 
 returns-2 : tie.Need-returns-2
 returns-2 c =
@@ -152,7 +131,7 @@ pub step-spec : {M : Type 1} → statement M
 step-spec =
     tie.close
     (tie.spec
-    judged-once-requires
+    (λ c κs. search needs)  -- judged-once-requires
     slice-reshare-prefix-match-within
     slice-aggregate-match-within
     match-within-requires
@@ -162,11 +141,11 @@ step-spec =
     slice-reshare-prefix-measure-and-settle
     slice-aggregate-measure-and-settle
     measure-and-settle-requires
-    same-length
+    (λ c. search needs)  -- same-length
     returns
-    same-length-2
-    same-length-3
-    same-length-4
-    same-length-5
-    same-length-6
+    (λ c. search needs)  -- same-length-2
+    (λ c. search needs)  -- same-length-3
+    (λ c. search needs)  -- same-length-4
+    (λ c. search needs)  -- same-length-5
+    (λ c. search needs)  -- same-length-6
     returns-2)
