@@ -7,10 +7,6 @@ use Rattle.napspruce.proofs.TextLaws.{numbers-long, behind-lines, behin
 use borrow.Author.Needs.{needs}
 use Rattle.napspruce.proofs.texts.read_behind.Statement.{statement}
 use Rattle.napspruce.proofs.texts.read_behind.Tie as tie
-use Rattle.napspruce.proofs.texts.read_behind.Reads as reads
-use Rattle.napspruce.proofs.texts.read_behind.Lts as lts
-use Rattle.lines.proofs.checked.read_lines.Reads as read-lines-reads
-use Rattle.napspruce.proofs.texts.smaller.Reads as smaller-reads
 
 sub-smaller : tie.Need-sub-smaller
 sub-smaller c =
