@@ -89,13 +89,15 @@ static void find(void)
     expect("no way is refused with 12", napspruce_find(circuit, COUNT(circuit), rules, COUNT(rules), 1, 8, 0) == 1000120);
 }
 
-/* The circuit for a machine of three registers; it needs so many. */
+/* The circuit for a machine of three registers; it needs so many, and uses no others on a larger machine. */
 static void translate(const uint32_t *table, size_t count)
 {
-    static uint32_t program[NAPSPRUCE_PROGRAM];
+    static uint32_t program[NAPSPRUCE_PROGRAM], larger[NAPSPRUCE_PROGRAM];
     uint64_t r = accepted("translate", napspruce_translate(table, count, 3, program, COUNT(program)));
     expect("need", NAPSPRUCE_NEED(r) == 3);
     expect("four loads, three operations, an emit", NAPSPRUCE_INSTRUCTIONS(r) == 8);
+    expect("the same numbers at the largest limit", napspruce_translate(table, count, 1024, larger, COUNT(larger)) == r);
+    expect("and the same program", memcmp(program, larger, sizeof program) == 0);
     expect("two registers are refused with 10", napspruce_translate(table, count, 2, program, COUNT(program)) == 1000100);
 }
 

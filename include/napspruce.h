@@ -135,7 +135,8 @@ uint64_t napspruce_rewrite(const uint32_t *circuit, size_t circuit_len, const ui
 /* Trims the circuit and translates it to a program for a machine of `limit` registers, into `program`, of NAPSPRUCE_PROGRAM numbers at least,
  * four an instruction: (4, d, reference, 0) loads a constant or input into register d, an input at its starting level; (1, d, a, b) and
  * (2, d, a, b) put the XOR or AND of registers a and b into d; (3, a, 0, 0) emits register a. Gives the need and the number of
- * instructions.
+ * instructions. Every limit that is not below the need gives the same program: it writes exactly as many different registers as the need, and
+ * their numbers are all below the need, so that memory for so many is enough.
  * Refusals: 1 of the circuit; 2; 4, 5, 11, 6, 7 of the circuit; 9; 10. */
 uint64_t napspruce_translate(const uint32_t *circuit, size_t circuit_len, uint32_t limit, uint32_t *program, size_t program_len);
 

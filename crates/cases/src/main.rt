@@ -28,6 +28,7 @@ mod printing;
 mod recoding;
 mod rewrites;
 mod translations;
+mod written;
 
 // As many numbers as a table of sites has at most.
 const MAX_SITES_TABLE: usize = 3 * (1 + MAX_SITES as usize);

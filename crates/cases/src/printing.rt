@@ -22,9 +22,13 @@ pub fn print_answer(answer: Answer) {
     }
 }
 
-pub fn print_number(number: u32) {
+pub fn print_size(number: usize) {
     io::write_all(STDOUT_FILENO, b" ");
     io::print_decimal(STDOUT_FILENO, number as u64);
+}
+
+pub fn print_number(number: u32) {
+    print_size(number as usize);
 }
 
 pub fn print_byte(byte: u8) {

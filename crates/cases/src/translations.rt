@@ -5,6 +5,8 @@ use crate::machine::MAX_LIMIT;
 use crate::machine::print_run;
 use crate::printing::print_number;
 use crate::printing::print_refusal;
+use crate::printing::print_size;
+use crate::written::count_written;
 use libc::STDOUT_FILENO;
 use translator::PROGRAM_NUMBERS;
 use translator::Translated;
@@ -20,6 +22,8 @@ fn print_translation(circuit: &[u32], limit: u32) {
         Translated::Program { instructions, need } => {
             print_number(instructions);
             print_number(need);
+            // What stands behind the program is still zeros, which write nothing.
+            print_size(count_written(&program));
         }
         Translated::Refused(refusal) => print_refusal(refusal),
     }

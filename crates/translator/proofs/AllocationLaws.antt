@@ -56,6 +56,13 @@ module _ (n : ℕ) (p w : ℕ → Bool) (x : ℕ) (s : Allocation) (h : x < n) (
   pub read-there : isAmong (suc x) (s .owners) ≡ true
   read-there = a .kept x r (rw (eq-eqb x x refl))
 
+  -- a register that is freed can be taken again, so that each of them is free or has a value that is wanted
+  release-total : w x ≡ false → length (release false x s .freed) + countBelow (λ v. p v && w v) n ≡ length (release false x s .owners)
+  unfolding release
+  release-total e =
+      let one : oneIf (not (w x)) ≡ 1 = rw e in
+      rw length-set (omega (arith, a .total, count-wanted p w x n h r))
+
   pub release-allocated : Allocated n p w (release (w x) x s)
   unfolding release
   release-allocated = go (w x) refl
@@ -73,7 +80,6 @@ module _ (n : ℕ) (p w : ℕ → Bool) (x : ℕ) (s : Allocation) (h : x < n) (
           }
       go false e =
           let out = free-out (s .owners) held x (s .freed) here (a .free) in
-          let one : oneIf (not (w x)) ≡ 1 = rw e in
           record {
             kept = λ v y z. freed-other (s .owners) held x v here (λ q. true≢false (sym z ∙ ap w q ∙ e)) (a .kept v y (wanted-too v z));
             owned = λ v y. a .owned v (freed-among (s .owners) held v y);
@@ -83,7 +89,7 @@ module _ (n : ℕ) (p w : ℕ → Bool) (x : ℕ) (s : Allocation) (h : x < n) (
               out,
               free-set (s .owners) held 0 (s .freed) out (a .free),
             );
-            total = rw length-set (omega (arith, a .total, count-wanted p w x n h r));
+            total = release-total e;
           }
 
   -- its register fits on the stack

@@ -51,7 +51,12 @@ pub count-some : (p : ℕ → Bool) (x n : ℕ) → x < n → p x ≡ true → 1
 count-some p x n h e =
     omega (arith, count-more (λ v. p v && not (eqb v x)) p x n h (rw (eq-eqb x x refl) (and-false (p x))) e (λ v ne. rw (ne-eqb v x ne) (and-true (p v))))
 
--- all that are below n, at most
+-- all that are below n, and at most these
+pub count-all : (p : ℕ → Bool) (n : ℕ) → ((v : ℕ) → v < n → p v ≡ true) → countBelow p n ≡ n
+unfolding countBelow
+count-all p zero h = refl
+count-all p (suc n) h = rw (h n (omega arith)) (omega (arith, count-all p n (λ v l. h v (omega arith))))
+
 pub count-limit : (p : ℕ → Bool) (n : ℕ) → countBelow p n ≤ n
 unfolding countBelow
 count-limit p zero = omega arith

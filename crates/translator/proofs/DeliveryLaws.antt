@@ -36,7 +36,7 @@ use Rattle.translator.specs.TranslateCall.{isLimit, translateChecks}
 use Rattle.translator.specs.SafeDelivery.{SafeDelivery}
 use Rattle.translator.specs.Theorems.{DeliveryIsSafe, CallsDeliver}
 use Rattle.translator.proofs.CallLaws.{translation-accepted, needs-more, needs-no-more}
-use Rattle.translator.proofs.Theorems.{program-emits-outputs, instructions-after-encode}
+use Rattle.translator.proofs.Theorems.{program-emits-outputs, instructions-after-encode, translation-writes-need}
 
 -- ---- a run that is safe, and the table of the circuit that it hands back
 
@@ -119,6 +119,6 @@ calls-deliver circuit rules sites result work verdicts values e bytes h =
                 let done = needs-no-more (trim (decode t)) limit buffer (need c) (ap need (sym same)) enough _ _ refl refl ∙ translation-accepted t limit buffer passed in
                 let read = instructions-after-encode p (drop (length (encodeProgram p)) buffer) ∙ ap program same in
                 let (es, runs, bits, top) = delivery .program-runs limit low high enough in
-                (_, _, es, sym done, ap₂ (λ d is. run d leveledOp limit is) loads read ∙ runs, bits, top ∙ sym depth),
+                (_, _, es, sym done, ap₂ (λ d is. run d leveledOp limit is) loads read ∙ runs, bits, top ∙ sym depth, translation-writes-need t limit buffer _ _ _ (sym done)),
           ),
     )

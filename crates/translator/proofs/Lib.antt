@@ -14,6 +14,7 @@ pub mod ActionLaws
 pub mod LoadLaws
 pub mod ShapeLaws
 pub mod RegisterLaws
+pub mod WrittenLaws
 pub mod MomentLaws
 pub mod HoldingLaws
 pub mod LeveledLaws

@@ -107,8 +107,8 @@ module _ (c : Circuit) (k : Trimmed c) where
   unfolding need
   outputs-need = omega arith
 
--- the different outputs
-distinct-count : (os : List ℕ) (n : ℕ) → ((o : ℕ) → isAmong o os ≡ true → o < n) → countDistinct os ≡ countBelow (λ v. isAmong v os) n
+-- the different numbers of a list, if all are below n
+pub distinct-count : (os : List ℕ) (n : ℕ) → ((o : ℕ) → isAmong o os ≡ true → o < n) → countDistinct os ≡ countBelow (λ v. isAmong v os) n
 unfolding countDistinct isAmong
 distinct-count [] n h = sym (count-none _ n (λ v. refl))
 distinct-count (o ∷ os) n h = go (isAmong o os) refl (distinct-count os n (λ x e. h x (among-tail x o os e)))

@@ -1,5 +1,6 @@
 -- The theorems about the register program. Assumes nothing.
 use mathlib.Core.Path.{_≡_, refl, sym, ap, ap₂, _∙_}
+use mathlib.Core.Bool.{true}
 use mathlib.Core.List.{List, [], _∷_, _++_, map, append-assoc}
 use mathlib.Core.Option.{Option, none, some, bind-eq-some-iff}
 use Prim.Native.Nat.{ℕ, zero, suc, _+_, _<_}
@@ -7,6 +8,7 @@ use native.Mathlib.Nat.{le-trans, not-suc-le-zero, le-of-suc-le-suc}
 use native.Mathlib.Omega.{arith}
 use lib.ListN.{length, drop, getD, replicate, length-replicate}
 use lib.Seq.{drop-cons, drop-length, take-length}
+use borrow.Author.Tests.{le-ltb}
 use Rattle.circuit.specs.Circuit.{constants, references, noGate}
 use Rattle.circuit.specs.Evaluation.{bitOp, bitOf, startBits}
 use Rattle.circuit.specs.Table.{inputs, decode}
@@ -22,10 +24,12 @@ use Rattle.translator.specs.LeveledBit.{LeveledBit, leveledOp, atLevel, 
 use Rattle.translator.specs.Need.{need}
 use Rattle.translator.specs.Actions.{operandLoads, actionsFrom}
 use Rattle.translator.specs.Program.{program, encodeProgram, instructionsOf}
-use Rattle.translator.specs.Theorems.{RunWithinLimit, InstructionDoes, InstructionFaults, BitsAndLevels, InstructionsAfterEncode, LastUseDecides, PressureIsNeed, AllocatorIsProgram, ProgramComputes, ProgramEmitsOutputs, NeedIsSome, RegistersWithinNeed, ProgramFollowsActions, ProgramCount, ActionsOperateInOrder, ActionsLoadOnce, ActionsLoadAtFirstUse, ActionsLoadForOutputs, ValuesAreHeld, TranslationRuns}
-use Rattle.translator.proofs.CountLaws.{count-some}
+use Rattle.translator.specs.Written.{registersWritten}
+use Rattle.translator.specs.TranslateCall.{translating}
+use Rattle.translator.specs.Theorems.{RunWithinLimit, InstructionDoes, InstructionFaults, BitsAndLevels, InstructionsAfterEncode, LastUseDecides, PressureIsNeed, AllocatorIsProgram, ProgramComputes, ProgramEmitsOutputs, NeedIsSome, RegistersWithinNeed, ProgramWritesNeed, ProgramFollowsActions, ProgramCount, ActionsOperateInOrder, ActionsLoadOnce, ActionsLoadAtFirstUse, ActionsLoadForOutputs, ValuesAreHeld, TranslationRuns, TranslationWritesNeed, LimitChangesNothing}
+use Rattle.translator.proofs.CountLaws.{count-some, count-all}
 use Rattle.translator.proofs.TrimmedLaws.{trimmed-of}
-use Rattle.translator.proofs.PressureLaws.{linear-need, outputs-need}
+use Rattle.translator.proofs.PressureLaws.{linear-need, outputs-need, distinct-count}
 use Rattle.translator.proofs.OwnerLaws.{among-element}
 use Rattle.translator.proofs.RunLaws.{load-executes, operation-executes, emit-executes}
 use Rattle.translator.proofs.FaultLaws.{full, fault-executes, executes-fault}
@@ -34,11 +38,12 @@ use Rattle.translator.proofs.ActionLaws.{end-is-program}
 use Rattle.translator.proofs.LoadLaws.{operations-actions, actions-split, output-operations, operand-occurrences, output-occurrences, actions-occurrences}
 use Rattle.translator.proofs.ShapeLaws.{program-shape, program-length, program-limit, instructions-encode}
 use Rattle.translator.proofs.RegisterLaws.{run-within}
+use Rattle.translator.proofs.WrittenLaws.{written-used, program-writes}
 use Rattle.translator.proofs.LeveledLaws.{levels-at, bits-long, starts-long, leveled-length, leveledOutputs, emitted-bits, emitted-levels}
 use Rattle.translator.proofs.MomentLaws.{after-code}
 use Rattle.translator.proofs.HoldingLaws.{holding-before, holding-after, holding-end}
 use Rattle.translator.proofs.LastUseLaws.{used-from}
-use Rattle.translator.proofs.CallLaws.{translation-is}
+use Rattle.translator.proofs.CallLaws.{Translation, translation-is}
 
 -- ---- the machine
 
@@ -143,6 +148,16 @@ registers-within-need t w d h =
     let (es, e, bits, levels, top) = program-emits-outputs t w bytes (length-replicate {A = ℕ} (inputs t) 0) (need c) (omega arith) in
     run-within-limit LeveledBit (startLeveled (decode t) bytes) leveledOp (need c) (program c) es e d h
 
+pub program-writes-need : ProgramWritesNeed
+program-writes-need t w =
+    let c = trim (decode t) in
+    let ds = registersWritten (program c) in
+    let below : (d : ℕ) → isAmong d ds ≡ true → d < need c = λ d e. registers-within-need t w d (written-used (program c) d e) in
+    record {
+      as-many = distinct-count ds (need c) below ∙ count-all (λ d. isAmong d ds) (need c) (program-writes c (trimmed-of t w));
+      all-below = below;
+    }
+
 -- ---- the actions
 
 pub program-follows-actions : ProgramFollowsActions
@@ -198,16 +213,29 @@ values-are-held A op z start t w l limit enough =
 
 -- ---- the call
 
+module _ (t : List ℕ) (limit : ℕ) (buffer after : List ℕ) (count n : ℕ) (x : Translation t limit buffer after count n) where
+  -- what it leaves, read back
+  read-back : instructionsOf count after ≡ program (trim (decode t))
+  read-back =
+      let p = program (trim (decode t)) in
+      ap₂ instructionsOf (x .counted) (x .written) ∙ instructions-after-encode p (drop (length (encodeProgram p)) buffer)
+
 pub translation-runs : TranslationRuns
 translation-runs t limit buffer after count n e =
     let x = translation-is t limit buffer after count n e in
-    let w = accepted-is-well-formed t .0 (x .accepted) in
-    let c = trim (decode t) in
-    let p = program c in
-    let read : instructionsOf count after ≡ p
-    = ap₂ instructionsOf (x .counted) (x .written) ∙ instructions-after-encode p (drop (length (encodeProgram p)) buffer) in (
+    let w = accepted-is-well-formed t .0 (x .accepted) in (
       x .needed,
       λ bytes l.
           let (es, r, bits, levels, top) = program-emits-outputs t w bytes l limit (x .enough) in
-          (es, ap (runOn (decode t) bytes limit) read ∙ r, bits, top),
+          (es, ap (runOn (decode t) bytes limit) (read-back t limit buffer after count n x) ∙ r, bits, top),
     )
+
+pub translation-writes-need : TranslationWritesNeed
+translation-writes-need t limit buffer after count n e =
+    let x = translation-is t limit buffer after count n e in
+    rw (read-back t limit buffer after count n x, x .needed) (program-writes-need t (accepted-is-well-formed t .0 (x .accepted)))
+
+pub limit-changes-nothing : LimitChangesNothing
+unfolding translating
+limit-changes-nothing t limit other buffer a b h k =
+    let n = need (trim (decode t)) in rw (a, b, le-ltb limit n h, le-ltb other n k)

@@ -22,7 +22,7 @@ lastUse c v = first (isOutput c v) (suc (length (c .gates))) (lastGate (c .gates
 abbrev pub isUsedBehind : (last : List ℕ) (number v : ℕ) → Bool
 isUsedBehind last number v = ltb number (getD last v 0)
 
--- how many different references there are among the outputs, from the last output to the first
+-- how many different numbers a list has, from the last to the first: references among the outputs, registers among those written
 unfoldable pub countDistinct : List ℕ → ℕ
 countDistinct [] = 0
 countDistinct (o ∷ os) = first (isAmong o os) (countDistinct os) (countDistinct os + 1)

@@ -11,6 +11,7 @@ pub mod Pressure
 pub mod Allocator
 pub mod Registers
 pub mod Shape
+pub mod Written
 pub mod Moment
 pub mod TranslateCall
 pub mod SafeDelivery

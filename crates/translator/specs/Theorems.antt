@@ -35,8 +35,9 @@ use Rattle.translator.specs.LastUse.{lastUse}
 use Rattle.translator.specs.Pressure.{oneIf, linearNeed}
 use Rattle.translator.specs.Allocator.{allocationAfter, allocationBefore, allocationAtEnd}
 use Rattle.translator.specs.Shape.{withoutRegisters, instructionOf, registersIn, occurrences}
+use Rattle.translator.specs.Written.{WritesExactly}
 use Rattle.translator.specs.Moment.{Holding}
-use Rattle.translator.specs.TranslateCall.{programNumbers, translating}
+use Rattle.translator.specs.TranslateCall.{programNumbers, isLimit, translating}
 use Rattle.translator.specs.SafeDelivery.{SafeDelivery}
 
 -- ---- the machine, over any values
@@ -128,6 +129,10 @@ abbrev pub RegistersWithinNeed : Type 0
 RegistersWithinNeed =
     (t : List ℕ) → WellFormed t → (d : ℕ) → isAmong d (registersIn (program (trim (decode t)))) ≡ true → d < need (trim (decode t))
 
+-- 02, 2026-03: as many different registers as the need are written, and all are below it. No limit is in the program.
+abbrev pub ProgramWritesNeed : Type 0
+ProgramWritesNeed = (t : List ℕ) → WellFormed t → WritesExactly (need (trim (decode t))) (program (trim (decode t)))
+
 -- ---- 01, Register program, 8, 9 and 11, of the program
 
 -- Its instructions are the actions in order, with registers, and then one emit an output.
@@ -200,6 +205,18 @@ TranslationRuns =
     × (map (λ b. b .bit) emitted ≡ evaluate (decode t) bytes)
     × (largest (map (λ b. b .level) emitted) ≡ circuitDepth (decode t)))
 
+-- 02, 2026-03: it writes exactly as many different registers as the need that is answered, whatever the limit is, and all are below it.
+abbrev pub TranslationWritesNeed : Type 0
+TranslationWritesNeed =
+    (t : List ℕ) (limit : ℕ) (buffer after : List ℕ) (count n : ℕ)
+    → translating t limit buffer ≡ leaving (gives (count ∷ n ∷ [])) after → WritesExactly n (instructionsOf count after)
+
+-- More than 02, 2026-03, asks: two limits that are not below the need give the same numbers, and leave the same program in the buffer.
+abbrev pub LimitChangesNothing : Type 0
+LimitChangesNothing =
+    (t : List ℕ) (limit other : ℕ) (buffer : List ℕ) → isLimit limit ≡ true → isLimit other ≡ true
+    → need (trim (decode t)) ≤ limit → need (trim (decode t)) ≤ other → translating t limit buffer ≡ translating t other buffer
+
 -- ---- demand 3
 
 -- The whole list is safe, for every circuit, rules, sites and input bytes that are not refused.
@@ -211,7 +228,8 @@ DeliveryIsSafe =
 -- The same in the terms of the two calls, whatever `rewrite` is lent. After it has succeeded with `values` (lines, old D, old N, new D, new N,
 -- kept), its result begins with a table of as many lines, its verdicts with one a site, of which as many are 0 as were kept, and the
 -- numbers are bounded as above. Given that table, a limit from 1 to 1,024 and a buffer that is long enough, `translate` pleads 10 exactly
--- below the need; and what it leaves after a success, run with its limit, emits the bits of the circuit first read, the new D as the highest level.
+-- below the need; and what it leaves after a success, run with its limit, emits the bits of the circuit first read, the new D as the highest
+-- level, and writes exactly as many different registers as the need, all below it (02, 2026-03).
 abbrev pub CallsDeliver : Type 0
 CallsDeliver =
     (circuit rules sites result work verdicts values : List ℕ)
@@ -230,4 +248,5 @@ CallsDeliver =
     × (translating (encode (handedBack circuit rules sites)) limit buffer ≡ leaving (gives (count ∷ need (handedBack circuit rules sites) ∷ [])) after)
     × (runOn (decode circuit) bytes limit (instructionsOf count after) ≡ some emitted)
     × (map (λ b. b .bit) emitted ≡ evaluate (decode circuit) bytes)
-    × (largest (map (λ b. b .level) emitted) ≡ getD values 3 0)))
+    × (largest (map (λ b. b .level) emitted) ≡ getD values 3 0)
+    × WritesExactly (need (handedBack circuit rules sites)) (instructionsOf count after)))

@@ -1,6 +1,6 @@
 //! Each call of the library beside the evaluator's: the result, and every place of every slice afterwards.
 
-use evaluator::checking::check_program;
+use evaluator::checking::{check_program, check_registers};
 use evaluator::circuit::{CIRCUIT_NUMBERS, MOST_OUTPUTS};
 use evaluator::depth::{self, Pair};
 use evaluator::finding::{self, Found};
@@ -8,11 +8,11 @@ use evaluator::lines::{self, Line, LINE_BYTES};
 use evaluator::listing::{self, LISTING_BYTES};
 use evaluator::machine::INSTRUCTION_NUMBERS;
 use evaluator::random::Random;
-use evaluator::refusal::Answer;
+use evaluator::refusal::{overwrite, Answer};
 use evaluator::rewriting::{self, Rewritten};
 use evaluator::rules::{self, Verdict};
 use evaluator::sites::MOST_SITES;
-use evaluator::translation::{self, PROGRAM_NUMBERS};
+use evaluator::translation::{self, MOST_REGISTERS, PROGRAM_NUMBERS};
 use evaluator::{evaluation, matching};
 
 use crate::call::Call;
@@ -164,15 +164,7 @@ impl Calls<'_> {
         let mut given = self.given("circuit", circuit);
         let mut program = self.lent("program", PROGRAM_NUMBERS);
         let answer = translation::translate(circuit, limit, program.expected());
-        let result = unsafe {
-            napspruce_translate(
-                given.pointer(),
-                given.len(),
-                limit,
-                program.pointer(),
-                program.len(),
-            )
-        };
+        let result = translate_call(&mut given, limit, &mut program);
         let mut complaint = None;
         if let Ok(translated) = answer {
             let numbers = INSTRUCTION_NUMBERS * translated.instructions;
@@ -183,6 +175,39 @@ impl Calls<'_> {
         let expected = answer.map(|done| vec![done.need as u64, done.instructions as u64]);
         let call = Call::new(&TRANSLATE, result, expected, vec![&given, &program]);
         self.settle(call.with_numbers(&[limit]).with_complaint(complaint));
+        self.try_registers(circuit, limit, result, program.contents());
+    }
+
+    /// 02, 2026-03, after a success: as many registers are written as the need that it answered with, each below it. And, which is
+    /// more than it asks, other limits that are not below the need leave the same numbers.
+    fn try_registers(&mut self, circuit: &[u32], limit: u32, result: u64, program: &[u32]) {
+        let Ok(&[need, instructions]) = TRANSLATE.unpacked(result).as_deref() else {
+            return;
+        };
+        let need = need as u32;
+        let left = program.get(..INSTRUCTION_NUMBERS * instructions as usize);
+        let left = left.unwrap_or_default();
+        let complaint = check_registers(left, need).err();
+        self.tally.test(complaint.as_slice(), || {
+            format!("{}: registers at limit {limit}", self.case)
+        });
+        for other in [need, MOST_REGISTERS] {
+            if other != limit {
+                self.translate_again(circuit, other, result, left);
+            }
+        }
+    }
+
+    /// Translates what was translated before: the result and the program are the same.
+    fn translate_again(&mut self, circuit: &[u32], limit: u32, result: u64, left: &[u32]) {
+        let mut given = self.given("circuit", circuit);
+        let room = PROGRAM_NUMBERS.max(left.len());
+        let mut program = Slice::lent(&mut self.random, "program", room);
+        overwrite(program.expected(), left);
+        let again = translate_call(&mut given, limit, &mut program);
+        let expected = TRANSLATE.unpacked(result);
+        let call = Call::new(&TRANSLATE, again, expected, vec![&given, &program]);
+        self.settle(call.with_numbers(&[limit]));
     }
 
     pub fn listing(&mut self, [circuit, rules, sites]: [&[u8]; 3]) {
@@ -233,6 +258,13 @@ impl Calls<'_> {
             }
         }
     }
+}
+
+/// Calls `translate`, whose limit stands between its slices.
+fn translate_call(circuit: &mut Slice<u32>, limit: u32, program: &mut Slice<u32>) -> u64 {
+    let (circuit_len, program_len) = (circuit.len(), program.len());
+    let (circuit, program) = (circuit.pointer(), program.pointer());
+    unsafe { napspruce_translate(circuit, circuit_len, limit, program, program_len) }
 }
 
 fn pair_values(pair: Pair) -> [u64; 2] {

@@ -11,12 +11,13 @@ use crate::evaluation::evaluate;
 use crate::finding::{find_mask, MOST_WAYS};
 use crate::lines::{self, Line};
 use crate::listing::program_output;
-use crate::machine::{run, Value, INSTRUCTION_NUMBERS};
+use crate::machine::{run, Value};
 use crate::matching::match_site;
 use crate::refusal::{Answer, CIRCUIT};
+use crate::registers::registers_written;
 use crate::rewriting::rewrite;
 use crate::rules::judge;
-use crate::translation::{translate, PROGRAM_NUMBERS};
+use crate::translation::program_of;
 
 /// As many numbers as the program's tables have room for.
 const CIRCUIT_ROOM: usize = 10_347;
@@ -105,23 +106,27 @@ fn inspection(table: &[u32]) -> String {
     line += &evaluation(table, 0, inputs, MOST_OUTPUTS as usize - 1);
     line += ", translate";
     for limit in LIMITS {
-        let translated = translate(table, limit, &mut [0; PROGRAM_NUMBERS]);
-        line += &words(translated.map(|answer| vec![answer.instructions, answer.need]));
+        line += &words(translation(table, limit));
     }
     line + &short_program(table, inputs)
 }
 
+/// The number of instructions, the need, and how many registers the program writes.
+pub fn translation(table: &[u32], limit: u32) -> Answer<Vec<usize>> {
+    let (translated, program) = program_of(table, limit)?;
+    let written = registers_written(&program).len();
+    Ok(vec![translated.instructions, translated.need, written])
+}
+
 /// A program of fewer than 25 instructions, whole, and what it emits with no more registers than the need.
 fn short_program(table: &[u32], inputs: usize) -> String {
-    let mut program = vec![0; PROGRAM_NUMBERS];
-    let Ok(translated) = translate(table, 1024, &mut program) else {
+    let Ok((translated, program)) = program_of(table, 1024) else {
         return String::new();
     };
     let levels = starting_levels(table).expect("what is translated is a circuit");
     if translated.instructions >= 25 {
         return String::new();
     }
-    program.truncate(INSTRUCTION_NUMBERS * translated.instructions);
     let emitted = |pattern| {
         let need = translated.need as u32;
         let emitted = run(need, &bytes(pattern, inputs), &levels, &program);

@@ -1,4 +1,5 @@
-//! Checks any register program against 01, Register program, and 02, 2026-01.
+//! Checks any register program against 01, Register program, and 02, 2026-01
+//! and 2026-03.
 
 use std::collections::{BTreeSet, HashMap};
 
@@ -10,6 +11,7 @@ use crate::lines::lines_of_table;
 use crate::machine::{run, Instruction, Value, EMIT, INSTRUCTION_NUMBERS, LOAD};
 use crate::random::Random;
 use crate::refusal::{Refusal, CIRCUIT};
+use crate::registers::registers_written;
 use crate::translation::{instruction_count, is_limit};
 
 /// How many random inputs a program is run on, beside all zeros and all ones.
@@ -34,7 +36,20 @@ pub fn check_program(circuit: &[u32], limit: u32, program: &[u32], need: u32) ->
         format!("{} numbers for {count} instructions", program.len())
     })?;
     Reader::new(limit, program, &holding).follow(&trimmed)?;
+    check_registers(program, need)?;
     check_runs(&circuit, limit, program)
+}
+
+/// 02, 2026-03: "the number of different registers written is exactly the
+/// circuit's need", "and their numbers are all below the need".
+pub fn check_registers(program: &[u32], need: u32) -> Checked {
+    let written = registers_written(program);
+    demand(written.len() == need as usize, || {
+        format!("{} registers written, not {need}", written.len())
+    })?;
+    demand(written.iter().all(|&register| register < need), || {
+        format!("registers {written:?} written, not all below {need}")
+    })
 }
 
 fn demand(condition: bool, complaint: impl Fn() -> String) -> Checked {

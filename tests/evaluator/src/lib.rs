@@ -1,5 +1,5 @@
 //! An independent reading of paper 01, "The depth rewriter and its rules", and
-//! of requests 2026-01 and 2026-02 of paper 02, "More changes customers want".
+//! of requests 2026-01 to 2026-03 of paper 02, "More changes customers want".
 //!
 //! Everything here is plain and slow on purpose: each function renders a
 //! sentence or two of the papers, named in its comment by section. Nothing is
@@ -10,7 +10,7 @@
 //! [`finding::find_mask`], [`rewriting::rewrite`], [`translation::translate`],
 //! [`listing::listing`] and [`listing::program_output`]. The register programs
 //! of others are judged by [`checking::check_program`] and run by
-//! [`machine::run`].
+//! [`machine::run`]; [`registers::registers_written`] says what they write.
 
 pub mod cases;
 pub mod checking;
@@ -28,6 +28,7 @@ pub mod machine;
 pub mod matching;
 pub mod random;
 pub mod refusal;
+pub mod registers;
 pub mod rewriting;
 pub mod rules;
 pub mod sites;

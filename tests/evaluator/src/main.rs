@@ -16,7 +16,6 @@ use evaluator::listing::program_output;
 use evaluator::matching::match_site;
 use evaluator::refusal::{Answer, CIRCUIT, RULES};
 use evaluator::rules::judge;
-use evaluator::translation::{translate, PROGRAM_NUMBERS};
 
 const USAGE: &str = "evaluator listing CIRCUIT RULES SITES
 evaluator judge RULES RULE
@@ -139,11 +138,10 @@ fn evaluate_file(circuit: &str, bytes: &[u8]) -> Answer<Vec<u64>> {
     Ok(outputs[..count].iter().map(|&bit| u64::from(bit)).collect())
 }
 
-/// The number of instructions and the need.
+/// The number of instructions, the need, and how many registers the program writes.
 fn translate_file(circuit: &str, limit: u32) -> Answer<Vec<u64>> {
-    let mut program = [0; PROGRAM_NUMBERS];
-    let translated = translate(&table(circuit, CIRCUIT)?, limit, &mut program)?;
-    Ok(vec![translated.instructions as u64, translated.need as u64])
+    let values = cases::translation(&table(circuit, CIRCUIT)?, limit)?;
+    Ok(values.into_iter().map(|value| value as u64).collect())
 }
 
 /// Writes cases 1 to `count` of a seed into directories 0001, 0002 and so on.

@@ -1,9 +1,9 @@
-//! A simple translator of its own (01, Register program).
+//! A simple translator of its own (01, Register program; 02, 2026-03).
 
 use crate::circuit::Circuit;
 use crate::holding::{after, before, Holding, Moment};
 use crate::lines::lines_of_table;
-use crate::machine::{Instruction, EMIT, LOAD};
+use crate::machine::{Instruction, EMIT, INSTRUCTION_NUMBERS, LOAD};
 use crate::refusal::{overwrite, refuse_if, require_room, Answer, CIRCUIT, NO_TABLE};
 
 pub const MOST_REGISTERS: u32 = 1024;
@@ -32,6 +32,14 @@ pub fn translate(circuit: &[u32], limit: u32, program: &mut [u32]) -> Answer<Tra
         instructions: instructions.len(),
         need,
     })
+}
+
+/// Translates into a buffer of its own, and gives the program's numbers too.
+pub fn program_of(circuit: &[u32], limit: u32) -> Answer<(Translated, Vec<u32>)> {
+    let mut program = vec![0; PROGRAM_NUMBERS];
+    let translated = translate(circuit, limit, &mut program)?;
+    program.truncate(INSTRUCTION_NUMBERS * translated.instructions);
+    Ok((translated, program))
 }
 
 /// 01, Refusals, 9: whether a register limit is within 1 to 1,024.

@@ -109,13 +109,16 @@ fn call_outcomes(name: &str, words: &[String]) -> Vec<String> {
     refusals.chain(verdicts).cloned().collect()
 }
 
+/// The refusals among the words behind the first, and the others.
+fn parted(words: &[String]) -> (Vec<String>, Vec<String>) {
+    let behind = words[1..].iter().cloned();
+    behind.partition(|word| word.contains('/'))
+}
+
 /// The refusals among the words, and the first of each three others: outcome,
 /// mask and ways.
 fn search_outcomes(words: &[String]) -> Vec<String> {
-    let (refusals, numbers): (Vec<String>, Vec<String>) = words[1..]
-        .iter()
-        .cloned()
-        .partition(|word| word.contains('/'));
+    let (refusals, numbers) = parted(words);
     let outcomes = numbers.into_iter().step_by(3);
     refusals.into_iter().chain(outcomes).collect()
 }
@@ -155,8 +158,32 @@ fn the_longest_listing_is_among_them() {
     assert_eq!(longest.max(), Some(LISTING_BYTES));
 }
 
+fn expected() -> String {
+    fs::read_to_string(folder().join("stdout")).expect("a file stdout")
+}
+
 #[test]
 fn the_program_must_print_what_the_evaluator_gives() {
-    let expected = fs::read_to_string(folder().join("stdout")).expect("a file stdout");
+    let expected = expected();
     assert!(cases().concat() == expected, "the command `cases` differs");
+}
+
+#[test]
+fn as_many_registers_are_written_as_needed_at_every_limit() {
+    let mut successes = 0;
+    for answer in expected().split(", ") {
+        if !answer.starts_with("translate ") {
+            continue;
+        }
+        let (_, numbers) = parted(&words(answer));
+        // Instructions, need and registers written.
+        let (translations, rest) = numbers.as_chunks::<3>();
+        assert!(rest.is_empty(), "{answer}");
+        for translation in translations {
+            assert_eq!(translation, &translations[0], "{answer}");
+            assert_eq!(translation[1], translation[2], "{answer}");
+            successes += 1;
+        }
+    }
+    assert!(successes > 1000, "{successes} translations only");
 }

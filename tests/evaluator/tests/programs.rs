@@ -155,15 +155,16 @@ fn the_checker_takes_every_free_choice() {
         |program: &[[u32; 4]], limit| check_program(&circuit, limit, &program.concat(), 2).is_ok();
     assert!(accepts(&RIGHT, 2));
     let other_order = [
-        [4, 6, 3, 0],
-        [4, 2, 2, 0],
-        [1, 0, 2, 6],
-        [2, 1, 0, 2],
+        [4, 0, 3, 0],
+        [4, 1, 2, 0],
+        [1, 0, 1, 0],
+        [2, 1, 0, 1],
         [3, 0, 0, 0],
         [3, 1, 0, 0],
     ];
     assert!(accepts(&other_order, 7));
-    assert!(!accepts(&other_order, 6));
+    assert!(accepts(&other_order, 2));
+    assert!(!accepts(&other_order, 1));
 }
 
 #[test]
@@ -200,7 +201,7 @@ fn the_checker_wants_loads_at_their_places() {
     let circuit = [[2, 2, 1], [2, 2, 2], [2, 4, 3], [3, 5, 0]].concat();
     let rest = [[2, 1, 1, 0], [3, 1, 0, 0]];
     let late = [&[[4, 0, 2, 0], [2, 1, 0, 0], [4, 0, 3, 0]], &rest[..]].concat();
-    let early = [&[[4, 2, 2, 0], [4, 0, 3, 0], [2, 1, 2, 2]], &rest[..]].concat();
+    let early = [&[[4, 1, 2, 0], [4, 0, 3, 0], [2, 1, 1, 1]], &rest[..]].concat();
     assert_eq!(check_program(&circuit, 3, &late.concat(), 2), Ok(()));
     assert!(check_program(&circuit, 3, &early.concat(), 2).is_err());
 }

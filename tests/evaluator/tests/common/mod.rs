@@ -1,6 +1,7 @@
 //! Tables and calls that several tests use. Not every test uses all of them.
 #![allow(dead_code)]
 
+use evaluator::checking::check_registers;
 use evaluator::circuit::CIRCUIT_NUMBERS;
 use evaluator::lines::{text_of, Line};
 use evaluator::lists::list_lines;
@@ -94,12 +95,16 @@ pub fn verdicts_of(circuit: &[Line], rules: &[&[Line]], sites: &[Line]) -> (Vec<
     )
 }
 
-/// Translates, and gives the answer with the program's numbers.
+/// Translates, and gives the answer with the program's numbers; the registers
+/// that it writes are as many as the need.
 pub fn call_translate(circuit: &[u32], limit: u32) -> Answer<(Translated, Vec<u32>)> {
     let mut program = vec![OLD; PROGRAM_NUMBERS];
     let answer = translate(circuit, limit, &mut program);
     let numbers = answer.map_or(0, |translated| 4 * translated.instructions);
     assert!(program[numbers..].iter().all(|&number| number == OLD));
     program.truncate(numbers);
-    answer.map(|translated| (translated, program))
+    let translated = answer?;
+    let registers = check_registers(&program, translated.need as u32);
+    assert_eq!(registers, Ok(()));
+    Ok((translated, program))
 }
