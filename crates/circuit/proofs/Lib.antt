@@ -1,5 +1,6 @@
 pub mod TableLaws
 pub mod EachLaws
+pub mod GateLaws
 pub mod RefusalLaws
 pub mod StartRunLaws
 pub mod EncodingLaws

@@ -5,18 +5,18 @@ use mathlib.Core.List.{List, [], _∷_}
 use Prim.Native.Nat.{ℕ, suc, _+_, _-_, _≤_, _<_}
 use native.Mathlib.Nat.{suc-ne-zero}
 use native.Mathlib.Omega.{arith}
-use lib.Dec.{leb, ltb}
 use lib.ListN.{length, getD}
-use borrow.Author.Tests.{le-leb, leb-true, lt-ltb, ltb-true}
+use borrow.Author.Tests.{lt-ltb, ltb-true}
 use Rattle.lists.specs.First.{first}
 use Rattle.lists.proofs.Tests.{both, left-of, right-of}
-use Rattle.circuit.specs.Circuit.{Circuit, noGate, firstGate, references, gateAt}
+use Rattle.circuit.specs.Circuit.{Circuit, noGate, firstGate, gateAt}
 use Rattle.circuit.specs.Table.{decode}
 use Rattle.circuit.specs.Path.{isAmong, isGate, isOperand, isPath, andsOn}
 use Rattle.circuit.specs.Depth.{plusAnd}
 use Rattle.circuit.specs.ReverseDepth.{reverseDepth, isLive, above}
 use Rattle.circuit.specs.Theorems.{LiveIsReached, AboveIsLargest, OperandsOfLive}
-use Rattle.circuit.proofs.EachLaws.{each-at, each-of}
+use Rattle.circuit.proofs.EachLaws.{each-of}
+use Rattle.circuit.proofs.GateLaws.{is-gate, at-gate}
 use Rattle.circuit.proofs.ValidLaws.{Valid, valid-decode}
 use Rattle.circuit.proofs.ReverseDepthLaws.{ands, plus-ands, handed-lt, handed-down, marked, reached, reverse-at, live-output}
 
@@ -26,15 +26,11 @@ module _ (c : Circuit) (ok : Valid c) where
   unfolding isPath andsOn
   path-below v [] e = ltb-true 0 (reverseDepth c v) (live-output c ok v e)
   path-below v (w ∷ ws) e =
-      let n = firstGate (c .inputs) in
       let gate = left-of (isGate c w) (isOperand v (gateAt c w) && isPath c w ws) e in
       let rest = right-of (isGate c w) (isOperand v (gateAt c w) && isPath c w ws) e in
-      let lo = leb-true n w (left-of (leb n w) (ltb w (references c)) gate) in
-      let hi = ltb-true w (references c) (right-of (leb n w) (ltb w (references c)) gate) in
       let ih = path-below w ws (right-of (isOperand v (gateAt c w)) (isPath c w ws) rest) in
-      let s : n + (w - n) ≡ w = omega arith in
-      let down = each-at _ n (c .gates) (handed-down c ok) (w - n) (omega arith) v (left-of (isOperand v (gateAt c w)) (isPath c w ws) rest) in
-      omega (arith, rw s at down, handed-lt (gateAt c w .kind) (reverseDepth c w) (andsOn c ws) ih, plus-ands (gateAt c w .kind) (andsOn c ws))
+      let down = at-gate c w gate _ (handed-down c ok) v (left-of (isOperand v (gateAt c w)) (isPath c w ws) rest) in
+      omega (arith, down, handed-lt (gateAt c w .kind) (reverseDepth c w) (andsOn c ws) ih, plus-ands (gateAt c w .kind) (andsOn c ws))
 
   -- a path from v with x ANDs
   abbrev Reaches : ℕ → ℕ → Type 0
@@ -46,8 +42,7 @@ module _ (c : Circuit) (ok : Valid c) where
   goes-up i h v x e (ws, p, q) =
       let n = firstGate (c .inputs) in
       let s : n + i - n ≡ i = omega arith in
-      let gate : isGate c (n + i) ≡ true = both {a = leb n (n + i)} {b = ltb (n + i) (references c)} (le-leb n (n + i) (omega arith)) (lt-ltb (n + i) (references c) (omega arith)) in
-      ((n + i) ∷ ws, rw (gate, s, e) p, rw (s, q) (plus-ands (getD (c .gates) i noGate .kind) x))
+      ((n + i) ∷ ws, rw (is-gate c (n + i) (omega arith) (omega arith), s, e) p, rw (s, q) (plus-ands (getD (c .gates) i noGate .kind) x))
 
   pub path-of : (v x : ℕ) → reverseDepth c v ≡ suc x → Reaches v x
   unfolding isPath andsOn marked

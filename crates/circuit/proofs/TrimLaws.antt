@@ -5,11 +5,10 @@ use mathlib.Core.List.{List, [], _∷_, map}
 use Prim.Native.Nat.{ℕ, _+_, _-_, _≤_, _<_}
 use native.Mathlib.Decide.{decLt}
 use native.Mathlib.Omega.{arith}
-use lib.Dec.{eqb, leb, ltb}
+use lib.Dec.{eqb, ltb}
 use lib.ListN.{length, getD, length-map, List·getD-eq-default}
-use borrow.Author.Tests.{eqb-true, leb-true, ltb-true, le-leb, lt-leb, lt-ltb}
+use borrow.Author.Tests.{eqb-true, le-leb, lt-leb, lt-ltb}
 use Rattle.lists.specs.First.{first}
-use Rattle.lists.proofs.Tests.{left-of, right-of}
 use Rattle.circuit.specs.Circuit.{Gate, Circuit, noGate, andKind, firstGate, references, gateAt}
 use Rattle.circuit.specs.Each.{countGates, EachGate}
 use Rattle.circuit.specs.Refusal.{hasGateKind}
@@ -21,6 +20,7 @@ use Rattle.circuit.specs.ReverseDepth.{reverseDepths, reverseDepth, isLi
 use Rattle.circuit.specs.Critical.{isCritical, criticalCount}
 use Rattle.circuit.specs.Trim.{renameGate, rank, keepGates, isKept, trim}
 use Rattle.circuit.proofs.EachLaws.{each-at, each-of, each-map}
+use Rattle.circuit.proofs.GateLaws.{gate-from, gate-to, at-gate}
 use Rattle.circuit.proofs.StartLaws.{start-length}
 use Rattle.circuit.proofs.ValidLaws.{Valid, Limited, among-head, among-tail}
 use Rattle.circuit.proofs.RankLaws.{rank-mono, rank-id, rank-lt, rank-eqb, keep-count, keep-length, each-keep, count-keep, keep-ordered, keep-value, keep-all}
@@ -100,10 +100,7 @@ module _ (c : Circuit) (ok : Valid c) where
 
   module _ (v : ℕ) (g : isGate c v ≡ true) (k : isKept c v ≡ true) where
     from : firstGate (c .inputs) ≤ v
-    from = leb-true (firstGate (c .inputs)) v (left-of (leb (firstGate (c .inputs)) v) (ltb v (references c)) g)
-
-    to : v < references c
-    to = ltb-true v (references c) (right-of (leb (firstGate (c .inputs)) v) (ltb v (references c)) g)
+    from = gate-from c v g
 
     split : firstGate (c .inputs) + (v - firstGate (c .inputs)) ≡ v
     split = omega (arith, from)
@@ -114,13 +111,11 @@ module _ (c : Circuit) (ok : Valid c) where
         let n = firstGate (c .inputs) in
         let kept = isKept c in
         let r : rank kept (n + (v - n)) ≡ rank kept n + (rank kept v - n) = omega (arith, ap (rank kept) split, rank-first, rank-mono kept n v from) in
-        keep-at kept n (c .gates) (v - n) (rank kept v - n) (omega (arith, from, to)) (ap kept split ∙ k) r
+        keep-at kept n (c .gates) (v - n) (rank kept v - n) (omega (arith, from, gate-to c v g)) (ap kept split ∙ k) r
 
     pub operands-kept : (isKept c (gateAt c v .left) ≡ true) × (isKept c (gateAt c v .right) ≡ true)
     operands-kept =
-        let n = firstGate (c .inputs) in
-        each-at (λ m x. isKept c m ≡ true → (isKept c (x .left) ≡ true) × (isKept c (x .right) ≡ true)) n (c .gates) (kept-closed c ok) (v - n) (omega (arith, from, to))
-        (ap (isKept c) split ∙ k)
+        at-gate c v g (λ m x. isKept c m ≡ true → (isKept c (x .left) ≡ true) × (isKept c (x .right) ≡ true)) (kept-closed c ok) k
 
   -- ---- the circuit
 

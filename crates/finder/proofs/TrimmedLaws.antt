@@ -10,13 +10,13 @@ use Rattle.lists.specs.First.{first}
 use Rattle.circuit.specs.Circuit.{Circuit, firstGate, references, noGate}
 use Rattle.circuit.specs.Path.{isGate}
 use Rattle.circuit.specs.Trim.{isKept, newNumber, oldNumber, trim}
+use Rattle.circuit.proofs.GateLaws.{gate-high}
 use Rattle.circuit.proofs.ValidLaws.{Valid}
 use Rattle.circuit.proofs.TrimLaws.{trim-is-gate}
 use Rattle.rules.specs.Rule.{Rule}
 use Rattle.rules.specs.Match.{matchLeft}
 use Rattle.rules.specs.RuleTable.{ruleOf}
 use Rattle.rules.specs.Verdict.{passes, notAGate, judgement, earlyVerdict}
-use Rattle.rules.proofs.MatchLaws.{gate-high}
 use Rattle.rules.proofs.JudgedLaws.{early-none}
 use Rattle.rules.proofs.TrimmedLaws.{AlikeOption, start-alike, gate-alike, old-either}
 use Rattle.finder.specs.declared.search.Searched.{Searched}

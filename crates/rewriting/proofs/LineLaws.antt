@@ -20,6 +20,7 @@ use Rattle.circuit.specs.Valuation.{Ordered}
 use Rattle.circuit.specs.Trim.{renameGate}
 use Rattle.circuit.specs.WellFormed.{Sized, WellFormed}
 use Rattle.circuit.proofs.TableLaws.{lines-length, starts-length, output-next, gates-length, outputs-length}
+use Rattle.circuit.proofs.GateLaws.{gate-from, gate-to}
 use Rattle.circuit.proofs.EncodingLaws.{encode-cons, encode-append, encode-length, encode-lines-length, encode-starts}
 use Rattle.circuit.proofs.StartLaws.{starts-are-inputs}
 use Rattle.circuit.proofs.BufferLaws.{over-behind, copied-headed}
@@ -28,7 +29,6 @@ use Rattle.rules.specs.Rule.{Rule, maxHoles, maxRights}
 use Rattle.rules.specs.RuleTable.{holesAt, rightsAt, rightFrom, ruleAt}
 use Rattle.rules.specs.WellFormed.{WellFormedRule}
 use Rattle.rules.proofs.RefusalLaws.{right-references-ok}
-use Rattle.rules.proofs.SubstitutionLaws.{gate-from, gate-to}
 use Rattle.rewriting.specs.Replacement.{instanceOf, renumber, frontLines, rightRenaming, renaming, gatesBefore, gatesBehind, replace}
 use Rattle.rewriting.specs.Verdict.{isTooLarge}
 use Rattle.rewriting.proofs.SpliceLaws.{each-left}

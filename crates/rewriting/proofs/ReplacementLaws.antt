@@ -17,6 +17,7 @@ use Rattle.circuit.specs.Refusal.{hasGateKind}
 use Rattle.circuit.specs.Evaluation.{bitOp, bitOf, startBits, bits, evaluate}
 use Rattle.circuit.specs.Path.{isGate}
 use Rattle.circuit.specs.Trim.{renameGate}
+use Rattle.circuit.proofs.GateLaws.{gate-from, gate-to}
 use Rattle.circuit.proofs.ValidLaws.{Valid, Limited}
 use Rattle.circuit.proofs.TrimLaws.{map-among, among-map}
 use Rattle.rules.specs.Rule.{Rule, hole, root}
@@ -25,7 +26,6 @@ use Rattle.rules.specs.Soundness.{startHoles, isSound}
 use Rattle.rules.specs.Match.{boundTo}
 use Rattle.rules.specs.Substitution.{Substitution}
 use Rattle.rules.proofs.MatchLaws.{some-coded}
-use Rattle.rules.proofs.SubstitutionLaws.{gate-from, gate-to}
 use Rattle.rules.proofs.ValueLaws.{hole-bits, matched-gate-has-value}
 use Rattle.rewriting.specs.Replacement.{instanceOf, renumber, rightRenaming, renaming, gatesBefore, gatesBehind, replace, BoundBelow}
 use Rattle.rewriting.proofs.SpliceLaws.{each-left, each-rename, Splice, splice-each, old-behind, splice-ordered, splice-rights, splice-value}

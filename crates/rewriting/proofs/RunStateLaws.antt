@@ -21,6 +21,7 @@ use Rattle.circuit.specs.Trim.{trim, trimOf}
 use Rattle.circuit.specs.WellFormed.{WellFormed}
 use Rattle.circuit.specs.declared.critical.DepthPair.{DepthPair}
 use Rattle.circuit.proofs.TableLaws.{lines-length, gates-length}
+use Rattle.circuit.proofs.GateLaws.{gate-from, gate-to}
 use Rattle.circuit.proofs.ValidLaws.{Valid, valid-decode, limited-decode, well-formed-encode}
 use Rattle.circuit.proofs.EncodingLaws.{decode-after-encode, encode-after-decode}
 use Rattle.circuit.proofs.FrontLaws.{front-is, front-fits}
@@ -35,7 +36,6 @@ use Rattle.rules.specs.WellFormed.{WellFormedRule, WellFormedRules}
 use Rattle.rules.proofs.RefusalLaws.{rule-at-place}
 use Rattle.rules.proofs.VerdictLaws.{given-verdict}
 use Rattle.rules.proofs.JudgedLaws.{judged-place, site-judged}
-use Rattle.rules.proofs.SubstitutionLaws.{gate-from, gate-to}
 use Rattle.rules.proofs.VerdictTheorems.{site-zero}
 use Rattle.rewriting.specs.declared.run.Run.{Run}
 use Rattle.rewriting.specs.declared.run.Stepped.{Stepped}

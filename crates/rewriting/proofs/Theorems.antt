@@ -12,13 +12,13 @@ use Rattle.circuit.specs.Evaluation.{evaluate}
 use Rattle.circuit.specs.Depth.{circuitDepth}
 use Rattle.circuit.specs.Critical.{criticalCount, pairOf}
 use Rattle.circuit.proofs.TableLaws.{outputs-length}
+use Rattle.circuit.proofs.GateLaws.{gate-from, gate-to}
 use Rattle.circuit.proofs.RefusalLaws.{accepted-is-well-formed}
 use Rattle.circuit.proofs.EncodingLaws.{decode-long}
 use Rattle.circuit.proofs.ValidLaws.{Valid, Limited, valid-decode, limited-decode, well-formed-encode}
 use Rattle.rules.specs.SiteTable.{siteCount, siteAt}
 use Rattle.rules.proofs.RefusalLaws.{accepted-rules-are-well-formed}
 use Rattle.rules.proofs.SiteLaws.{accepted-sites-are-well-formed}
-use Rattle.rules.proofs.SubstitutionLaws.{gate-from, gate-to}
 use Rattle.rewriting.specs.Replacement.{renaming, replace}
 use Rattle.rewriting.specs.Pair.{isLower}
 use Rattle.rewriting.specs.Run.{State, startState, step, verdictAt, stateAt, finalState, allVerdicts}

@@ -7,15 +7,16 @@ use Prim.Native.Nat.{ℕ, zero, suc, _+_, _-_, _*_, _≤_, _<_}
 use native.Mathlib.Nat.{not-suc-le-zero}
 use native.Mathlib.Numerals.{add-one}
 use native.Mathlib.Omega.{arith}
-use lib.Dec.{eqb, leb, ltb}
+use lib.Dec.{eqb}
 use lib.ListN.{drop, getD, set}
-use borrow.Author.Tests.{eqb-true, eq-eqb, ne-eqb, le-leb, lt-leb, lt-ltb, le-ltb, ltb-true}
+use borrow.Author.Tests.{eqb-true, eq-eqb, ne-eqb}
 use Rattle.lists.specs.First.{first}
-use Rattle.lists.proofs.Tests.{same-test, both, right-of}
-use Rattle.circuit.specs.Circuit.{Gate, Circuit, firstGate, references, noGate, gateAt}
+use Rattle.lists.proofs.Tests.{same-test}
+use Rattle.circuit.specs.Circuit.{Gate, Circuit, firstGate, noGate, gateAt}
 use Rattle.circuit.specs.Table.{inputs, gates, refs, lineAt, decode}
 use Rattle.circuit.specs.Path.{isGate}
 use Rattle.circuit.proofs.TableLaws.{lines-length, refs-decode}
+use Rattle.circuit.proofs.GateLaws.{is-gate, gate-low, gate-high, gate-to}
 use Rattle.rules.specs.Rule.{Rule}
 use Rattle.rules.specs.RuleTable.{holesAt, leftsAt, leftFrom, ruleAt}
 use Rattle.rules.specs.Match.{optional, binding, boundTo, bindAfter, bindReference, bindOperands, matchGate, matchLeft, isSwapped, matchGates, unbound, startBindings, matchRule, attempt}
@@ -71,18 +72,9 @@ module _ (o : Option (List ℕ)) (f : List ℕ → Option (List ℕ)) (x : Bool)
 
 -- ---- one left gate's part, by its tests on what the place of m holds
 
-pub is-gate : (c : Circuit) (v : ℕ) → firstGate (c .inputs) ≤ v → v < references c → isGate c v ≡ true
-is-gate c v h k = both {a = leb (firstGate (c .inputs)) v} (le-leb _ _ h) (lt-ltb _ _ k)
-
-pub gate-low : (c : Circuit) (v : ℕ) → v < firstGate (c .inputs) → isGate c v ≡ false
-gate-low c v h = rw (lt-leb (firstGate (c .inputs)) v h)
-
-pub gate-high : (c : Circuit) (v : ℕ) → references c ≤ v → isGate c v ≡ false
-gate-high c v h = rw (le-leb (firstGate (c .inputs)) v (omega arith), le-ltb v (references c) h)
-
 -- a gate of the circuit that the table t says
 pub gate-below : (t : List ℕ) (v : ℕ) → isGate (decode t) v ≡ true → v < refs t
-gate-below t v e = omega (arith, refs-decode t, ltb-true v (references (decode t)) (right-of (leb (firstGate (inputs t)) v) (ltb v (references (decode t))) e))
+gate-below t v e = omega (arith, refs-decode t, gate-to (decode t) v e)
 
 -- left gate i of a rule's table, where the left gate lines are found to begin at q
 pub left-line : (t : List ℕ) (p i : ℕ) → i < leftsAt t p → (q : ℕ) → q ≡ leftFrom t p → lineAt t (q + 3 * i) ≡ getD (ruleAt t p .lefts) i noGate

@@ -8,19 +8,20 @@ use Prim.Native.Nat.{ℕ, zero, suc, _+_, _-_, _≤_, _<_}
 use native.Mathlib.Nat.{not-suc-le-zero, le-refl}
 use native.Mathlib.Decide.{decLt, ℕ-discrete}
 use native.Mathlib.Omega.{arith}
-use lib.Dec.{eqb, leb, ltb}
+use lib.Dec.{eqb}
 use lib.ListN.{length, getD, set, replicate, length-set}
 use lib.Seq.{getD-set-same, getD-set-other}
-use borrow.Author.Tests.{eqb-true, leb-true, ltb-true, eq-eqb, ne-eqb}
+use borrow.Author.Tests.{eqb-true, eq-eqb, ne-eqb}
 use Rattle.lists.specs.First.{first}
 use Rattle.lists.specs.Below.{allBelow}
-use Rattle.lists.proofs.Tests.{left-of, right-of}
+use Rattle.lists.proofs.Tests.{left-of}
 use Rattle.lists.proofs.First.{first-false, first-either}
 use Rattle.lists.proofs.Below.{below-at}
-use Rattle.circuit.specs.Circuit.{Gate, Circuit, firstGate, references, noGate, gateAt}
+use Rattle.circuit.specs.Circuit.{Gate, Circuit, firstGate, noGate, gateAt}
 use Rattle.circuit.specs.Valuation.{Ordered}
 use Rattle.circuit.specs.Path.{isGate, isOperand, isUsed}
 use Rattle.circuit.proofs.EachLaws.{each-at}
+use Rattle.circuit.proofs.GateLaws.{gate-from, operands-below-gate}
 use Rattle.circuit.proofs.PassLaws.{zeros-at}
 use Rattle.rules.specs.Rule.{Rule, hole, root, maxLeftReferences}
 use Rattle.rules.specs.RuleRefusal.{holeUsed}
@@ -132,21 +133,6 @@ gate-tests c m g swap b b′ e = go (isGate c (boundTo b m)) refl (eqb (gateAt c
     go true p true y true e = (p, eqb-true _ _ y, e)
     go true p true y false e = (p, eqb-true _ _ y, e)
 
-pub gate-from : (c : Circuit) (v : ℕ) → isGate c v ≡ true → firstGate (c .inputs) ≤ v
-gate-from c v h = leb-true _ _ (left-of (leb (firstGate (c .inputs)) v) (ltb v (references c)) h)
-
-pub gate-to : (c : Circuit) (v : ℕ) → isGate c v ≡ true → v < references c
-gate-to c v h = ltb-true _ _ (right-of (leb (firstGate (c .inputs)) v) (ltb v (references c)) h)
-
--- a gate's operands are below it
-pub operands-below-gate : (c : Circuit) → Ordered (firstGate (c .inputs)) (c .gates) → (v : ℕ) → isGate c v ≡ true → (gateAt c v .left < v) × (gateAt c v .right < v)
-operands-below-gate c ok v h =
-    let n = firstGate (c .inputs) in
-    let lo = gate-from c v h in
-    let hi = gate-to c v h in
-    let o = each-at (λ m g. (g .left < m) × (g .right < m)) n (c .gates) ok (v - n) (omega arith) in
-    (omega (arith, o .0), omega (arith, o .1))
-
 module _ (c : Circuit) (ok : Ordered (firstGate (c .inputs)) (c .gates)) (cap : ℕ → ℕ) (top : ℕ)
     (cap-lo : (s : ℕ) → top ≤ cap s) (cap-hi : (s : ℕ) → cap s ≤ suc top) where
   gate-sound : (m : ℕ) (g : Gate) (swap : Bool) (b b′ : List ℕ) → matchGate c m g swap b ≡ some b′ → Low cap b
@@ -156,7 +142,7 @@ module _ (c : Circuit) (ok : Ordered (firstGate (c .inputs)) (c .gates)) (cap : 
       let h = gateAt c (boundTo b m) in
       let lo = gate-from c (boundTo b m) (t .0) in
       let under : boundTo b m ≤ top = omega (arith, low m, cap-hi m) in
-      let o = operands-below-gate c ok (boundTo b m) (t .0) in
+      let o = operands-below-gate c (boundTo b m) (t .0) ok in
       let x : first swap (h .right) (h .left) < boundTo b m = first-either (λ k. k < boundTo b m) swap (o .1) (o .0) in
       let y : first swap (h .left) (h .right) < boundTo b m = first-either (λ k. k < boundTo b m) swap (o .0) (o .1) in
       let s = operands-sound cap g (first swap (h .right) (h .left)) (first swap (h .left) (h .right)) b b′ (t .2) hl hr

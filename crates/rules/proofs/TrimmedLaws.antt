@@ -16,6 +16,7 @@ use Rattle.circuit.specs.Table.{decode}
 use Rattle.circuit.specs.WellFormed.{WellFormed}
 use Rattle.circuit.specs.Path.{isGate}
 use Rattle.circuit.specs.Trim.{isKept, newNumber, oldNumber, trim, trimOf}
+use Rattle.circuit.proofs.GateLaws.{gate-high}
 use Rattle.circuit.proofs.PassLaws.{zeros-at}
 use Rattle.circuit.proofs.ValidLaws.{Valid, valid-decode}
 use Rattle.circuit.proofs.RankLaws.{rank-eqb, rank-id, rank-onto}
@@ -28,7 +29,6 @@ use Rattle.rules.specs.RuleTable.{ruleOf}
 use Rattle.rules.specs.Soundness.{isSound}
 use Rattle.rules.specs.Match.{binding, bindTo, bindAfter, bindReference, bindOperands, matchGate, isSwapped, matchGates, startBindings, matchRule}
 use Rattle.rules.specs.Verdict.{SiteMatch, noRule, notSound, notAGate, noMatch, hasRule, failing, verdictBy, matchAt, matchSite}
-use Rattle.rules.proofs.MatchLaws.{gate-high}
 
 module _ (c : Circuit) where
   -- what a rule reference is bound to in the circuit and in the trimmed one: to nothing in both, or to a reference that is kept and its new number

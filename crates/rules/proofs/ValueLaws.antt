@@ -3,7 +3,7 @@
 use mathlib.Core.Path.{_≡_, refl, sym, ap, ap₂, _∙_}
 use mathlib.Core.Bool.{Bool, true, false}
 use mathlib.Core.List.{List}
-use Prim.Native.Nat.{ℕ, zero, suc, _+_, _-_, _<_}
+use Prim.Native.Nat.{ℕ, zero, suc, _+_, _<_}
 use native.Mathlib.Omega.{arith}
 use lib.Bits.{and-comm, xor-comm}
 use lib.ListN.{length, getD, length-map}
@@ -13,7 +13,8 @@ use Rattle.circuit.specs.Circuit.{Circuit, constants, firstGate, noGate, gateAt
 use Rattle.circuit.specs.Fold.{foldGates}
 use Rattle.circuit.specs.Valuation.{Ordered, Solves}
 use Rattle.circuit.specs.Evaluation.{bitOp, bitOf, startBits, bits}
-use Rattle.circuit.proofs.EachLaws.{each-at, each-of}
+use Rattle.circuit.proofs.EachLaws.{each-of}
+use Rattle.circuit.proofs.GateLaws.{at-gate}
 use Rattle.circuit.proofs.FoldLaws.{simulation, fold-solves, fold-keeps-start}
 use Rattle.circuit.proofs.BoundLaws.{bits-bit}
 use Rattle.rules.specs.Rule.{Rule, hole, root}
@@ -24,7 +25,7 @@ use Rattle.rules.specs.Substitution.{Substitution}
 use Rattle.rules.specs.Theorems.{SubstitutionCarriesValues, MatchedGateHasValue}
 use Rattle.rules.proofs.SoundnessLaws.{sound-is-agreement}
 use Rattle.rules.proofs.MatchLaws.{some-coded}
-use Rattle.rules.proofs.SubstitutionLaws.{left-coded, right-coded, gate-from, gate-to}
+use Rattle.rules.proofs.SubstitutionLaws.{left-coded, right-coded}
 
 pub substitution-carries-values : SubstitutionCarriesValues
 substitution-carries-values A op z comm c u w gate mask b s v sol start len old r h =
@@ -42,12 +43,7 @@ substitution-carries-values A op z comm c u w gate mask b s v sol start len old 
         let g = getD (u .lefts) i noGate in
         let f = s .gates-bound i l in
         let m = boundTo b (n₀ + i) in
-        let n = firstGate (c .inputs) in
-        let lo = gate-from c m (f .is-gate) in
-        let hi = gate-to c m (f .is-gate) in
-        let at : n + (m - n) ≡ m = omega arith in
-        let q : v m ≡ op (gateAt c m .kind) (v (gateAt c m .left)) (v (gateAt c m .right)) =
-        ap v (sym at) ∙ each-at (λ m g. v m ≡ op (g .kind) (v (g .left)) (v (g .right))) n (c .gates) sol (m - n) (omega arith) in
+        let q = at-gate c m (f .is-gate) (λ m g. v m ≡ op (g .kind) (v (g .left)) (v (g .right))) sol in
         let x : boundTo b (g .left) ≡ first (isSwapped mask i) (gateAt c m .right) (gateAt c m .left) = omega (arith, left-coded c b (n₀ + i) g (isSwapped mask i) f) in
         let y : boundTo b (g .right) ≡ first (isSwapped mask i) (gateAt c m .left) (gateAt c m .right) = omega (arith, right-coded c b (n₀ + i) g (isSwapped mask i) f) in
         q ∙ ap (λ k. op k (v (gateAt c m .left)) (v (gateAt c m .right))) (f .kind)

@@ -21,7 +21,8 @@ use Rattle.rules.specs.Match.{matchGates, startBindings, matchRule, atte
 use Rattle.rules.specs.Verdict.{SiteMatch, passes, notSound, notAGate, noMatch, hasRule, kindOf, kindVerdict, earlyVerdict, failing, givenWith, verdictBy, matchAt, matchSite, matchJudged}
 use Rattle.rules.specs.Theorems.{KindAsksForGate}
 use Rattle.circuit.proofs.TableLaws.{lines-length}
-use Rattle.rules.proofs.MatchLaws.{is-gate, gate-low, gate-high, match-start}
+use Rattle.circuit.proofs.GateLaws.{is-gate, gate-low, gate-high}
+use Rattle.rules.proofs.MatchLaws.{match-start}
 
 -- ---- what a reference is
 

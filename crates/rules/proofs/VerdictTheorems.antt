@@ -3,7 +3,7 @@ use mathlib.Core.Path.{_≡_, refl, sym, ap, _∙_}
 use mathlib.Core.Bool.{Bool, true, false, not}
 use mathlib.Core.List.{List}
 use mathlib.Core.Option.{Option, none, some}
-use Prim.Native.Nat.{ℕ, suc, _+_, _-_, _/_, _^_, _≤_}
+use Prim.Native.Nat.{ℕ, suc, _+_, _/_, _^_, _≤_}
 use native.Mathlib.Omega.{arith}
 use lib.Dec.{eqb}
 use lib.ListN.{length}
@@ -15,7 +15,7 @@ use Rattle.circuit.specs.Table.{decode}
 use Rattle.circuit.specs.Path.{isGate}
 use Rattle.circuit.specs.ReverseDepth.{isLive}
 use Rattle.circuit.specs.Trim.{trim}
-use Rattle.circuit.proofs.EachLaws.{each-at}
+use Rattle.circuit.proofs.GateLaws.{at-gate}
 use Rattle.circuit.proofs.ValidLaws.{valid-decode}
 use Rattle.circuit.proofs.TrimLaws.{trim-live}
 use Rattle.rules.specs.Rule.{Rule}
@@ -25,20 +25,14 @@ use Rattle.rules.specs.Match.{boundTo, matchRule}
 use Rattle.rules.specs.Verdict.{SiteMatch, passes, notSound, noMatch, hasRule, judgement, failing, verdictBy, matchAt, matchSite}
 use Rattle.rules.specs.Theorems.{BoundGatesAreLive, ZeroIsMatch, MatchIsZero, VerdictsAreSmall}
 use Rattle.rules.proofs.RefusalLaws.{each-rule-is-well-formed}
-use Rattle.rules.proofs.SubstitutionLaws.{gate-from, gate-to, match-gives-substitution}
+use Rattle.rules.proofs.SubstitutionLaws.{match-gives-substitution}
 use Rattle.rules.proofs.FindingLaws.{substitution-is-found}
 use Rattle.rules.proofs.VerdictLaws.{at-small, mask-within, site-at}
 
 pub bound-gates-are-live : BoundGatesAreLive
 bound-gates-are-live t w u gate mask b s i h =
     let c = trim (decode t) in
-    let n = firstGate (c .inputs) in
-    let v = boundTo b (firstGate (u .holes) + i) in
-    let g = s .gates-bound i h .is-gate in
-    let lo = gate-from c v g in
-    let hi = gate-to c v g in
-    let e : n + (v - n) ≡ v = omega arith in
-    ap (isLive c) (sym e) ∙ each-at (λ m g. isLive c m ≡ true) n (c .gates) (trim-live (decode t) (valid-decode t w)) (v - n) (omega arith)
+    at-gate c (boundTo b (firstGate (u .holes) + i)) (s .gates-bound i h .is-gate) (λ m g. isLive c m ≡ true) (trim-live (decode t) (valid-decode t w))
 
 -- ---- what a verdict 0 says
 

@@ -4,17 +4,17 @@ use mathlib.Core.Bool.{true, _&&_, or-true}
 use mathlib.Core.List.{List, [], _∷_}
 use Prim.Native.Nat.{ℕ, zero, suc, _+_, _-_, _<_}
 use native.Mathlib.Omega.{arith}
-use lib.Dec.{leb, ltb}
 use lib.ListN.{length, getD}
-use borrow.Author.Tests.{ltb-true, leb-true}
+use borrow.Author.Tests.{ltb-true}
 use Rattle.lists.proofs.Tests.{left-of, right-of}
-use Rattle.circuit.specs.Circuit.{Circuit, firstGate, references, noGate, gateAt}
+use Rattle.circuit.specs.Circuit.{Circuit, firstGate, noGate, gateAt}
 use Rattle.circuit.specs.Table.{decode}
 use Rattle.circuit.specs.WellFormed.{WellFormed}
 use Rattle.circuit.specs.Path.{isGate, isOperand, isPath}
 use Rattle.circuit.specs.ReverseDepth.{reverseDepth, isLive}
 use Rattle.circuit.specs.Trim.{trim}
 use Rattle.circuit.proofs.EachLaws.{each-at}
+use Rattle.circuit.proofs.GateLaws.{gate-from, gate-to}
 use Rattle.circuit.proofs.ValidLaws.{Valid, valid-decode}
 use Rattle.circuit.proofs.PathLaws.{path-of}
 use Rattle.circuit.proofs.TrimLaws.{trim-valid, trim-live}
@@ -42,8 +42,8 @@ module _ (c : Circuit) (ok : Valid c) where
       let v = n + i in
       let gate = left-of (isGate c w) (isOperand v (gateAt c w) && isPath c w ws) e in
       let uses = left-of (isOperand v (gateAt c w)) (isPath c w ws) (right-of (isGate c w) (isOperand v (gateAt c w) && isPath c w ws) e) in
-      let lo = leb-true n w (left-of (leb n w) (ltb w (references c)) gate) in
-      let hi = ltb-true w (references c) (right-of (leb n w) (ltb w (references c)) gate) in
+      let lo = gate-from c w gate in
+      let hi = gate-to c w gate in
       let below : n + i < n + (w - n) = operand-below v (n + (w - n)) (gateAt c w) (operands-low (w - n) (omega arith)) uses in
       rw (used-at v (c .gates) (suc i) (w - n) (omega arith) (omega arith) uses)
 
