@@ -7,6 +7,7 @@ pub mod EncodingLaws
 pub mod FoldLaws
 pub mod PassLaws
 pub mod StartLaws
+pub mod MultiplicativeDepthLaws
 pub mod ValidLaws
 pub mod RankLaws
 pub mod ReverseDepthLaws

@@ -13,12 +13,14 @@ use Rattle.circuit.specs.Circuit.{Circuit, noGate, firstGate, gateAt}
 use Rattle.circuit.specs.Table.{decode}
 use Rattle.circuit.specs.Path.{isAmong, isGate, isOperand, isPath, andsOn}
 use Rattle.circuit.specs.Depth.{plusAnd}
+use Rattle.circuit.specs.MultiplicativeDepth.{contribution}
 use Rattle.circuit.specs.ReverseDepth.{reverseDepth, isLive, above}
 use Rattle.circuit.specs.Theorems.{LiveIsReached, AboveIsLargest, OperandsOfLive}
 use Rattle.circuit.proofs.EachLaws.{each-of}
 use Rattle.circuit.proofs.GateLaws.{is-gate, at-gate}
+use Rattle.circuit.proofs.MultiplicativeDepthLaws.{plus-contribution}
 use Rattle.circuit.proofs.ValidLaws.{Valid, valid-decode}
-use Rattle.circuit.proofs.ReverseDepthLaws.{ands, plus-ands, handed-lt, handed-down, marked, reached, reverse-at, live-output}
+use Rattle.circuit.proofs.ReverseDepthLaws.{handed-lt, handed-down, marked, reached, reverse-at, live-output}
 
 module _ (c : Circuit) (ok : Valid c) where
   -- no path has more ANDs than `above` says, and where there is one the reference is live
@@ -30,19 +32,19 @@ module _ (c : Circuit) (ok : Valid c) where
       let rest = right-of (isGate c w) (isOperand v (gateAt c w) && isPath c w ws) e in
       let ih = path-below w ws (right-of (isOperand v (gateAt c w)) (isPath c w ws) rest) in
       let down = at-gate c w gate _ (handed-down c ok) v (left-of (isOperand v (gateAt c w)) (isPath c w ws) rest) in
-      omega (arith, down, handed-lt (gateAt c w .kind) (reverseDepth c w) (andsOn c ws) ih, plus-ands (gateAt c w .kind) (andsOn c ws))
+      omega (arith, down, handed-lt (gateAt c w .kind) (reverseDepth c w) (andsOn c ws) ih, plus-contribution (gateAt c w .kind) (andsOn c ws))
 
   -- a path from v with x ANDs
   abbrev Reaches : ℕ → ℕ → Type 0
   Reaches v x = (path : List ℕ) × (isPath c v path ≡ true) × (andsOn c path ≡ x)
 
   goes-up : (i : ℕ) → i < length (c .gates) → (v x : ℕ) → isOperand v (getD (c .gates) i noGate) ≡ true → Reaches (firstGate (c .inputs) + i) x
-      → Reaches v (x + ands (getD (c .gates) i noGate .kind))
+      → Reaches v (contribution (getD (c .gates) i noGate .kind) + x)
   unfolding isPath andsOn
   goes-up i h v x e (ws, p, q) =
       let n = firstGate (c .inputs) in
       let s : n + i - n ≡ i = omega arith in
-      ((n + i) ∷ ws, rw (is-gate c (n + i) (omega arith) (omega arith), s, e) p, rw (s, q) (plus-ands (getD (c .gates) i noGate .kind) x))
+      ((n + i) ∷ ws, rw (is-gate c (n + i) (omega arith) (omega arith), s, e) p, rw (s, q) (plus-contribution (getD (c .gates) i noGate .kind) x))
 
   pub path-of : (v x : ℕ) → reverseDepth c v ≡ suc x → Reaches v x
   unfolding isPath andsOn marked

@@ -4,7 +4,7 @@ use mathlib.Core.Logic.{_≢_}
 use mathlib.Core.Bool.{Bool, true, false, true≢false, _||_, or-true}
 use mathlib.Core.List.{List, [], _∷_}
 use Prim.Native.Nat.{ℕ, zero, suc, _+_, _≤_, _<_, max}
-use native.Mathlib.Nat.{add-zero, suc-ne-zero}
+use native.Mathlib.Nat.{suc-ne-zero}
 use native.Mathlib.Decide.{decLt, ℕ-discrete}
 use native.Mathlib.Omega.{arith}
 use lib.Dec.{eqb}
@@ -13,35 +13,26 @@ use lib.Seq.{getD-set-same, getD-set-other}
 use borrow.Author.Tests.{eq-eqb, ne-eqb, lt-ltb, le-ltb, ltb-true}
 use Rattle.lists.specs.First.{first}
 use Rattle.lists.proofs.First.{first-either}
-use Rattle.circuit.specs.Circuit.{Gate, Circuit, andKind, firstGate, references}
+use Rattle.circuit.specs.Circuit.{Gate, Circuit, firstGate, references}
 use Rattle.circuit.specs.Each.{EachGate}
 use Rattle.circuit.specs.Valuation.{Ordered}
 use Rattle.circuit.specs.Depth.{plusAnd}
 use Rattle.circuit.specs.Path.{isAmong, isOperand}
+use Rattle.circuit.specs.MultiplicativeDepth.{contribution}
 use Rattle.circuit.specs.ReverseDepth.{markOutputs, raise, raiseOperands, raiseGates, reverseDepths, reverseDepth, isLive}
 use Rattle.circuit.specs.Trim.{renameGate, rank, keepGates, isKept}
 use Rattle.circuit.proofs.EachLaws.{each-zip}
+use Rattle.circuit.proofs.MultiplicativeDepthLaws.{plus-contribution}
 use Rattle.circuit.proofs.ValidLaws.{Valid, among-head, among-tail}
 use Rattle.circuit.proofs.RankLaws.{rank-suc, rank-same, rank-eqb, Closed}
 use Rattle.circuit.proofs.PassLaws.{raise-dead, raise-live, raise-length, mark-length, zeros-at}
 
 -- ---- as functions of the reference
 
--- 1 for an AND
-abbrev pub ands : ℕ → ℕ
-ands kind = first (eqb kind andKind) 1 0
-
-pub plus-ands : (kind x : ℕ) → plusAnd kind x ≡ x + ands kind
-plus-ands kind x = go (eqb kind andKind)
-  where
-    go : (b : Bool) → first b (x + 1) x ≡ x + first b 1 0
-    go true = refl
-    go false = sym (add-zero x)
-
 -- what a gate with reverse depth x hands to its operands
 unfoldable pub handed : ℕ → ℕ → ℕ
 handed kind zero = zero
-handed kind (suc x) = suc x + ands kind
+handed kind (suc x) = contribution kind + suc x
 
 unfoldable pub carried : Gate → ℕ → ℕ → ℕ
 carried g r x = first (isOperand r g) (handed (g .kind) x) 0
@@ -83,8 +74,8 @@ operands-at n g d s hl hr = go (getD d n 0) refl
     go : (x : ℕ) → getD d n 0 ≡ x → getD (raiseOperands n g d) s 0 ≡ max (getD d s 0) (carried g s x)
     go zero e = rw (raise-dead n g d e, carried-zero g s) (omega arith)
     go (suc x) e =
-        let p : plusAnd (g .kind) (getD d n 0) ≡ suc x + ands (g .kind) = rw e (plus-ands (g .kind) (suc x)) in
-        rw (raise-live n g d (λ z. suc-ne-zero x (sym e ∙ z)), p) (raise-two d g (suc x + ands (g .kind)) s hl hr)
+        let p : plusAnd (g .kind) (getD d n 0) ≡ contribution (g .kind) + suc x = rw e (plus-contribution (g .kind) (suc x)) in
+        rw (raise-live n g d (λ z. suc-ne-zero x (sym e ∙ z)), p) (raise-two d g (contribution (g .kind) + suc x) s hl hr)
 
 raises : (n : ℕ) (gs : List Gate) (d : List ℕ) → Ordered n gs → n + length gs ≤ length d
     → (s : ℕ) → getD (raiseGates n gs d) s 0 ≡ raised n gs (λ r. getD d r 0) s
@@ -132,12 +123,12 @@ unfolding handed
 handed-ge kind zero = omega arith
 handed-ge kind (suc x) = omega arith
 
-pub handed-lt : (kind x m : ℕ) → m < x → m + ands kind < handed kind x
+pub handed-lt : (kind x m : ℕ) → m < x → contribution kind + m < handed kind x
 unfolding handed
 handed-lt kind zero m h = omega arith
 handed-lt kind (suc x) m h = omega arith
 
-handed-is : (kind x y : ℕ) → handed kind x ≡ suc y → (z : ℕ) × (x ≡ suc z) × (z + ands kind ≡ y)
+handed-is : (kind x y : ℕ) → handed kind x ≡ suc y → (z : ℕ) × (x ≡ suc z) × (contribution kind + z ≡ y)
 unfolding handed
 handed-is kind zero y e = absurd (suc-ne-zero y (sym e))
 handed-is kind (suc x) y e = (x, refl, omega arith)
@@ -179,7 +170,7 @@ operand-right g = rw (eq-eqb (g .right) (g .right) refl, or-true)
 
 -- what the pass says is so: P holds where w says so, and goes from a gate down to its operands
 pub reached : (P : ℕ → ℕ → Type 0) (n : ℕ) (gs : List Gate) (w : ℕ → ℕ)
-    → EachGate (λ m g. (v x : ℕ) → isOperand v g ≡ true → P m x → P v (x + ands (g .kind))) n gs
+    → EachGate (λ m g. (v x : ℕ) → isOperand v g ≡ true → P m x → P v (contribution (g .kind) + x)) n gs
     → ((r x : ℕ) → w r ≡ suc x → P r x) → (r x : ℕ) → raised n gs w r ≡ suc x → P r x
 unfolding raised carried
 reached P n [] w a h r x e = h r x e

@@ -30,7 +30,7 @@ setLevels (s ∷ ss) d = setLevels ss (set d (s .input) (s .level))
 unfoldable pub startLevels : Circuit → List ℕ
 startLevels c = setLevels (c .starts) (replicate (firstGate (c .inputs)) 0)
 
--- the depth of each reference
+-- the depth of each reference; that it is source 003's: `DepthOfGate` and `DepthIsMultiplicative` in Theorems.antt
 unfoldable pub depths : Circuit → List ℕ
 depths c = foldGates depthOp 0 (c .gates) (startLevels c)
 

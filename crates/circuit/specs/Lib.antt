@@ -8,6 +8,7 @@ pub mod Valuation
 pub mod Evaluation
 pub mod Depth
 pub mod Path
+pub mod MultiplicativeDepth
 pub mod ReverseDepth
 pub mod Critical
 pub mod Trim

@@ -1,5 +1,5 @@
 -- The theorems about circuits, as statements; each is proved under its name in proofs/.
-use Prim.Native.Nat.{ℕ, suc, _+_, _≤_, _<_}
+use Prim.Native.Nat.{ℕ, suc, _+_, _≤_, _<_, max}
 use mathlib.Core.Path.{_≡_}
 use mathlib.Core.Logic.{_↔_, _⊎_}
 use mathlib.Core.Bool.{true, not, _&&_}
@@ -17,6 +17,7 @@ use Rattle.circuit.specs.Valuation.{Ordered, Solves}
 use Rattle.circuit.specs.Evaluation.{evaluate}
 use Rattle.circuit.specs.Depth.{plusAnd, startLevels, depth, circuitDepth}
 use Rattle.circuit.specs.Path.{isAmong, isGate, isOperand, isPath, andsOn}
+use Rattle.circuit.specs.MultiplicativeDepth.{contribution, multiplicativeDepth}
 use Rattle.circuit.specs.ReverseDepth.{isLive, above}
 use Rattle.circuit.specs.Critical.{criticalCount}
 use Rattle.circuit.specs.Trim.{renameGate, isKept, newNumber, oldNumber, trimOf}
@@ -134,6 +135,19 @@ abbrev pub EvaluationGivesBits : Type 0
 EvaluationGivesBits =
     (c : Circuit) (bytes : List ℕ)
     → (length (evaluate c bytes) ≡ length (c .outputs)) × ((i : ℕ) → getD (evaluate c bytes) i 0 < 2)
+
+-- ---- depth, in the words of source 003
+
+-- 02, 2026-04: where operands are below their gates, as in every circuit that is not refused (`AcceptedIsWellFormed`, `WellFormedIsCircuit`), a
+-- gate's depth is its own contribution plus the larger of its operands' depths.
+abbrev pub DepthOfGate : Type 0
+DepthOfGate =
+    (c : Circuit) → Ordered (firstGate (c .inputs)) (c .gates) → (v : ℕ) → isGate c v ≡ true
+    → depth c v ≡ contribution (gateAt c v .kind) + max (depth c (gateAt c v .left)) (depth c (gateAt c v .right))
+
+-- So the depth of every gate, and of every other reference, is `multiplicativeDepth`: 003's, with starting levels.
+abbrev pub DepthIsMultiplicative : Type 0
+DepthIsMultiplicative = (c : Circuit) → Ordered (firstGate (c .inputs)) (c .gates) → (v : ℕ) → multiplicativeDepth c v ≡ depth c v
 
 -- ---- paths
 

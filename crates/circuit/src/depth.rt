@@ -1,4 +1,4 @@
-// Depths of references, and the depth of a circuit (01, Depth and critical count, 1 and 2; 02, 2026-01).
+// Depths of references, and the depth of a circuit (01, Depth and critical count, 1 and 2; 02, 2026-01 and 2026-04).
 ghost use mathlib.Core.Path.{_≡_};
 ghost use Prim.Native.Nat.{_+_, _≤_, max};
 ghost use lib.ListN.{length, take, replicate};
@@ -7,6 +7,7 @@ ghost use Rattle.circuit.specs.Circuit.{maxDepth, firstGate};
 ghost use Rattle.circuit.specs.Table.{inputs, gates, refs, decode};
 ghost use Rattle.circuit.specs.WellFormed.{WellFormed};
 ghost use Rattle.circuit.specs.Depth.{isCounted, plusAnd, depthOp, setLevels, startLevels, depths, circuitDepth};
+ghost use Rattle.circuit.specs.MultiplicativeDepth.{contribution};
 use crate::table::AND;
 use crate::table::closings_from;
 use crate::table::first_gate;
@@ -27,21 +28,31 @@ pub fn is_counted(kind: u32) -> bool
     kind == AND
 }
 
-// One more for a gate that counts. Depths are at most the deepest there is, reverse depths at most the number of gates and 1.
+// What a gate of this kind contributes to its own depth: 1 if it counts, else 0.
+fn contribution(kind: u32) -> u32
+    ensures { λ r. ⌜ r ≡ contribution kind ⌝ }
+{
+    if is_counted(kind) { 1 } else { 0 }
+}
+
+// One more for a gate that counts, its contribution first. Reverse depths go by it, which are at most the number of gates and 1.
 pub fn plus_and(kind: u32, x: u32) -> u32
     requires { ⌜ x ≤ maxDepth + 1 ⌝ }
     ensures { λ r. ⌜ r ≡ plusAnd kind x ⌝ }
 {
-    if is_counted(kind) { x + 1 } else { x }
+    contribution(kind) + x
 }
 
-// A gate's depth, from those of its operands.
+// A gate's depth, from those of its operands, in the steps of source 003, section 2.1: first its own contribution, then the larger of these,
+// then the two added.
 fn gate_depth(kind: u32, a: u32, b: u32) -> u32
     requires { ⌜ a ≤ maxDepth ⌝ }
     requires { ⌜ b ≤ maxDepth ⌝ }
     ensures { λ r. ⌜ r ≡ depthOp kind a b ⌝ }
 {
-    plus_and(kind, larger(a, b))
+    let own = contribution(kind);
+    let operands = larger(a, b);
+    own + operands
 }
 
 // Zeros in the first n places.

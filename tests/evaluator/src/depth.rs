@@ -1,4 +1,5 @@
-//! Depth and critical count (01, Depth and critical count; 02, 2026-01).
+//! Depth and critical count (01, Depth and critical count; 003, section 2.1;
+//! 02, 2026-01 and 2026-04).
 
 use crate::circuit::Circuit;
 use crate::gates::{Kind, CONSTANTS};
@@ -33,13 +34,16 @@ pub fn pair(circuit: &Circuit) -> Pair {
 }
 
 /// The depth of every reference: a constant's is 0, an input's, by 02,
-/// 2026-01, its starting level.
+/// 2026-01, its starting level. A gate's is worked out in the steps of 003,
+/// section 2.1, as 02, 2026-04, asks: what it contributes itself, the larger
+/// operand depth, their sum.
 pub fn depths(circuit: &Circuit) -> Vec<u32> {
     let mut depths = vec![0; CONSTANTS];
     depths.extend(circuit.starting_levels());
     for gate in &circuit.gates {
+        let own = gate.kind.ands();
         let larger = depths[gate.left].max(depths[gate.right]);
-        depths.push(larger + gate.kind.ands());
+        depths.push(own + larger);
     }
     depths
 }

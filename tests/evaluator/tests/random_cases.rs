@@ -4,7 +4,7 @@ mod common;
 
 use std::collections::BTreeSet;
 
-use common::{call_translate, refused};
+use common::{call_translate, circuit_lines, refused};
 use evaluator::checking::check_program;
 use evaluator::circuit::Circuit;
 use evaluator::depth::{measure, pair, Pair};
@@ -12,7 +12,7 @@ use evaluator::evaluation::output_bits;
 use evaluator::finding::{find_mask, MOST_WAYS};
 use evaluator::gates::CONSTANTS;
 use evaluator::generator::{case, some_starts, spoil_starts, Case, FAULTS};
-use evaluator::lines::{lines_of_text, Line};
+use evaluator::lines::lines_of_text;
 use evaluator::listing::counted;
 use evaluator::random::Random;
 use evaluator::refusal::{Answer, CIRCUIT, RULES, SITES};
@@ -21,14 +21,10 @@ use evaluator::rewriting::{run, Run};
 const CASES: u64 = 200;
 
 fn run_case(case: &Case) -> Answer<Run> {
-    let circuit = lines_of_text(counted(&case.circuit), CIRCUIT)?;
+    let circuit = circuit_lines(case)?;
     let rules = lines_of_text(counted(&case.rules), RULES)?;
     let sites = lines_of_text(counted(&case.sites), SITES)?;
     run(&circuit, &rules, &sites)
-}
-
-fn circuit_lines(case: &Case) -> Answer<Vec<Line>> {
-    lines_of_text(counted(&case.circuit), CIRCUIT)
 }
 
 fn cases() -> impl Iterator<Item = Case> {

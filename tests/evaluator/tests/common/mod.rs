@@ -3,9 +3,11 @@
 
 use evaluator::checking::check_registers;
 use evaluator::circuit::CIRCUIT_NUMBERS;
-use evaluator::lines::{text_of, Line};
+use evaluator::generator::Case;
+use evaluator::lines::{lines_of_text, text_of, Line};
+use evaluator::listing::counted;
 use evaluator::lists::list_lines;
-use evaluator::refusal::{Answer, Refusal};
+use evaluator::refusal::{Answer, Refusal, CIRCUIT};
 use evaluator::rewriting::{rewrite, Rewritten};
 use evaluator::translation::{translate, Translated, PROGRAM_NUMBERS};
 
@@ -59,6 +61,11 @@ pub fn table(parts: &[&[Line]]) -> Vec<u32> {
 /// A text of rules or sites.
 pub fn text(parts: &[&[Line]]) -> Vec<u8> {
     text_of(&listed(parts))
+}
+
+/// The lines of a random case's circuit.
+pub fn circuit_lines(case: &Case) -> Answer<Vec<Line>> {
+    lines_of_text(counted(&case.circuit), CIRCUIT)
 }
 
 /// A call of rewrite: the answer, the result's numbers and the verdicts.

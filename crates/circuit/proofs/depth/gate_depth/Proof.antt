@@ -1,17 +1,25 @@
--- By the definition of `depthOp`, from what `larger` and `plus_and` give.
-use mathlib.Core.Path.{ap, _∙_}
+-- By the law that it is a sum, from what `contribution` and `larger` give.
+use mathlib.Core.Path.{sym, ap₂, _∙_}
+use Prim.Native.Nat.{_+_, max}
+use native.Mathlib.Omega.{arith}
 use borrow.Author.Needs.{needs}
-use Rattle.circuit.specs.Depth.{plusAnd}
+use Rattle.circuit.proofs.MultiplicativeDepthLaws.{contribution-le, plus-contribution}
 use Rattle.circuit.proofs.depth.gate_depth.Statement.{statement}
 use Rattle.circuit.proofs.depth.gate_depth.Tie as tie
 
+add-result : tie.Need-add-result
+add-result c = omega (arith, contribution-le (c .before .before .args .kind))
+
 returns : tie.Need-returns
-returns c = c .plus-and .ensures ∙ ap (plusAnd (c .before .before .args .kind)) (c .before .larger .ensures)
+returns c =
+    let g = c .before .before .args in
+    ap₂ _+_ (c .before .contribution .ensures) (c .larger .ensures) ∙ sym (plus-contribution (g .kind) (max (g .a) (g .b)))
 
 pub gate-depth-spec : {M : Type 1} → statement M
 gate-depth-spec =
     tie.close
     (tie.spec
+    (λ c κs. search needs)  -- contribution-requires
     (λ c κs. search needs)  -- larger-requires
-    (λ c κs. search needs)  -- plus-and-requires
+    add-result
     returns)

@@ -1,21 +1,20 @@
--- The two ways of the test, by what `is_counted` says.
-use mathlib.Core.Path.{sym, _∙_}
-use Rattle.lists.proofs.First.{first-true, first-false}
+-- By the law that it is a sum, from what `contribution` gives.
+use native.Mathlib.Omega.{arith}
 use borrow.Author.Needs.{needs}
+use Rattle.circuit.proofs.MultiplicativeDepthLaws.{contribution-le, plus-contribution}
 use Rattle.circuit.proofs.depth.plus_and.Statement.{statement}
 use Rattle.circuit.proofs.depth.plus_and.Tie as tie
 
-returns : tie.Need-returns
-returns c = sym (first-true _ _ (sym (c .before .is-counted .ensures) ∙ c .if1 .taken))
+add-result : tie.Need-add-result
+add-result c = omega (arith, contribution-le (c .before .args .kind))
 
-returns-2 : tie.Need-returns-2
-returns-2 c = sym (first-false _ _ (sym (c .before .is-counted .ensures) ∙ c .if1 .left))
+returns : tie.Need-returns
+returns c = omega (arith, plus-contribution (c .before .args .kind) (c .before .args .x))
 
 pub plus-and-spec : {M : Type 1} → statement M
 plus-and-spec =
     tie.close
     (tie.spec
-    (λ c κs. search needs)  -- is-counted-requires
-    (λ c. search needs)  -- add-result
-    returns
-    returns-2)
+    (λ c κs. search needs)  -- contribution-requires
+    add-result
+    returns)
