@@ -58,7 +58,7 @@ pub trim-lines : (t : List ℕ)
     ∷ (take (3 * starts t) (drop 3 t) ++ (encodeLines (trimmedGates (decode t))
     ++ encodeLines (map closingLine (trimmedOutputs (decode t)))))
 unfolding encode trim
-trim-lines t = rw (length-map (decode t .outputs) (rank (isKept (decode t))), outputs-length t, encode-starts t)
+trim-lines t = rw (length-map, outputs-length t, encode-starts t)
 
 module _ (kept : ℕ → Bool) (n : ℕ) (gs : List Gate) (i : ℕ) (g : Gate) (e : drop i gs ≡ g ∷ drop (i + 1) gs) where
   pub append-kept : kept (n + i) ≡ true
