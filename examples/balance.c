@@ -89,15 +89,21 @@ static void find(void)
     expect("no way is refused with 12", napspruce_find(circuit, COUNT(circuit), rules, COUNT(rules), 1, 8, 0) == 1000120);
 }
 
-/* The circuit for a machine of three registers; it needs so many, and uses no others on a larger machine. */
+/* The circuit for a machine of three registers; it needs so many, and uses no others on a larger machine. It has one program. */
 static void translate(const uint32_t *table, size_t count)
 {
+    static const uint32_t only[] = {4, 0, 2, 0, 4, 1, 3, 0, 2, 1, 0, 1, 4, 0, 4, 0, 4, 2, 5, 0, 2, 2, 0, 2, 2, 2, 1, 2, 3, 2, 0, 0};
+    static const uint32_t wider[] = {4, 4, 1, 2, 2, 3, 2, 4, 5, 1, 2, 3, 2, 6, 7, 3, 9, 0}; /* 8 = 2 XOR 3, which nothing uses */
     static uint32_t program[NAPSPRUCE_PROGRAM], larger[NAPSPRUCE_PROGRAM];
     uint64_t r = accepted("translate", napspruce_translate(table, count, 3, program, COUNT(program)));
     expect("need", NAPSPRUCE_NEED(r) == 3);
     expect("four loads, three operations, an emit", NAPSPRUCE_INSTRUCTIONS(r) == 8);
+    expect("the one program of this circuit", memcmp(program, only, sizeof only) == 0);
     expect("the same numbers at the largest limit", napspruce_translate(table, count, 1024, larger, COUNT(larger)) == r);
     expect("and the same program", memcmp(program, larger, sizeof program) == 0);
+    memset(larger, 0, sizeof larger);
+    expect("the same with a gate that no output reaches", napspruce_translate(wider, COUNT(wider), 3, larger, COUNT(larger)) == r);
+    expect("number by number", memcmp(program, larger, 4 * NAPSPRUCE_INSTRUCTIONS(r) * sizeof *program) == 0);
     expect("two registers are refused with 10", napspruce_translate(table, count, 2, program, COUNT(program)) == 1000100);
 }
 

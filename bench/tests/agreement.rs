@@ -187,22 +187,17 @@ impl Seen {
         self.note("listing", answer);
     }
 
-    /// Programs may differ in their registers, so each is checked by itself.
+    /// At limits around the need, and at one that may be out of range.
     fn translation(&mut self, random: &mut Random, circuit: &[u32]) {
         let old = old_numbers(length(random, PROGRAM_NUMBERS));
-        let slow = |limit| slow_translate(circuit, limit, &mut old.clone());
-        let need = slow(1024).map_or(1, |done| done.need as u32);
+        let most = slow_translate(circuit, 1024, &mut old.clone());
+        let need = most.map_or(1, |done| done.need as u32);
         for limit in [need - 1, need, need + 1, 1024, random.pick(&ODD)] {
-            let mut program = old.clone();
-            let answer = translation::translate(circuit, limit, &mut program);
-            assert_eq!(answer, slow(limit));
-            let written = answer.map_or(0, |done| 4 * done.instructions);
-            assert!(program[written..] == old[written..]);
-            if let Ok(done) = answer {
-                let check = evaluator::checking::check_program;
-                let checked = check(circuit, limit, &program[..written], done.need as u32);
-                assert_eq!(checked, Ok(()));
-            }
+            let answer = agree(
+                old.clone(),
+                |program| translation::translate(circuit, limit, program),
+                |program| slow_translate(circuit, limit, program),
+            );
             self.note("translate", answer);
         }
     }

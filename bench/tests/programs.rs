@@ -1,4 +1,4 @@
-//! The choice of registers and loads, which outputs are compared by.
+//! The registers that a program takes, and the order of its loads (02, 2026-05).
 
 use bench::plain::translation::{translate, Translated, PROGRAM_NUMBERS};
 

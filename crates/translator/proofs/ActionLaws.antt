@@ -130,10 +130,14 @@ module _ (c : Circuit) (k : Trimmed c) where
       ∙ allocate-load b o (outputLoads c (suc j) (drop (suc j) (c .outputs))) (c .outputs) (outputsLoaded c j)
       ∙ ap (allocate (c .outputs) (outputLoads c (suc j) (drop (suc j) (c .outputs)))) (load-ensures b o (outputsLoaded c j) new)
 
-  pub end-is-program : withEmits c (allocationAtEnd c) ≡ program c
-  unfolding program allocate outputLoads actionsFrom
-  end-is-program =
-      ap (withEmits c) (sym (after-actions (length (c .gates)) (omega arith)
+  pub end-allocated : allocate (c .outputs) (actions c) noRegisters ≡ allocationAtEnd c
+  unfolding allocate outputLoads actionsFrom
+  end-allocated =
+      after-actions (length (c .gates)) (omega arith)
       ∙ ap (λ gs. allocate (c .outputs) (actionsFrom c (length (c .gates)) gs) (allocationAfter c (length (c .gates)))) (drop-length (c .gates))
       ∙ outputs-actions (length (c .outputs)) (omega arith)
-      ∙ ap (λ os. allocate (c .outputs) (outputLoads c (length (c .outputs)) os) (allocationAtEnd c)) (drop-length (c .outputs))))
+      ∙ ap (λ os. allocate (c .outputs) (outputLoads c (length (c .outputs)) os) (allocationAtEnd c)) (drop-length (c .outputs))
+
+  pub end-is-program : withEmits c (allocationAtEnd c) ≡ program c
+  unfolding program
+  end-is-program = ap (withEmits c) (sym end-allocated)

@@ -1,5 +1,5 @@
 -- Demand 3: the rewriter and the translator together. Assumes nothing.
-use mathlib.Core.Path.{_≡_, refl, sym, ap, ap₂, _∙_}
+use mathlib.Core.Path.{_≡_, refl, sym, ap, ap₂, subst, _∙_}
 use mathlib.Core.Bool.{true, false, not}
 use mathlib.Core.List.{List}
 use Prim.Native.Nat.{ℕ, _*_, _≤_}
@@ -31,12 +31,13 @@ use Rattle.rewriting.proofs.Theorems.{decode-encoded, run-is-safe, success-is-s
 use Rattle.translator.specs.Machine.{maxRegisters, run}
 use Rattle.translator.specs.LeveledBit.{leveledOp, atLevels, startLeveled, runOn}
 use Rattle.translator.specs.Need.{need}
-use Rattle.translator.specs.Program.{program, encodeProgram}
+use Rattle.translator.specs.Program.{program, encodeProgram, instructionsOf}
+use Rattle.translator.specs.Discipline.{Disciplined}
 use Rattle.translator.specs.TranslateCall.{isLimit, translateChecks}
 use Rattle.translator.specs.SafeDelivery.{SafeDelivery}
 use Rattle.translator.specs.Theorems.{DeliveryIsSafe, CallsDeliver}
 use Rattle.translator.proofs.CallLaws.{translation-accepted, needs-more, needs-no-more}
-use Rattle.translator.proofs.Theorems.{program-emits-outputs, instructions-after-encode, translation-writes-need}
+use Rattle.translator.proofs.Theorems.{program-emits-outputs, instructions-after-encode, translation-writes-need, translation-is-disciplined}
 
 -- ---- a run that is safe, and the table of the circuit that it hands back
 
@@ -119,6 +120,16 @@ calls-deliver circuit rules sites result work verdicts values e bytes h =
                 let done = needs-no-more (trim (decode t)) limit buffer (need c) (ap need (sym same)) enough _ _ refl refl ∙ translation-accepted t limit buffer passed in
                 let read = instructions-after-encode p (drop (length (encodeProgram p)) buffer) ∙ ap program same in
                 let (es, runs, bits, top) = delivery .program-runs limit low high enough in
-                (_, _, es, sym done, ap₂ (λ d is. run d leveledOp limit is) loads read ∙ runs, bits, top ∙ sym depth, translation-writes-need t limit buffer _ _ _ (sym done)),
+                let (one, _) = translation-is-disciplined t limit buffer _ _ _ (sym done) in (
+                  _,
+                  _,
+                  es,
+                  sym done,
+                  ap₂ (λ d is. run d leveledOp limit is) loads read ∙ runs,
+                  bits,
+                  top ∙ sym depth,
+                  translation-writes-need t limit buffer _ _ _ (sym done),
+                  subst (λ d. Disciplined d (instructionsOf (length p) (over (encodeProgram p) buffer))) same one,
+                ),
           ),
     )

@@ -13,9 +13,12 @@ pub mod ComputeLaws
 pub mod ActionLaws
 pub mod LoadLaws
 pub mod ShapeLaws
+pub mod LoadOrderLaws
 pub mod RegisterLaws
 pub mod WrittenLaws
+pub mod HistoryLaws
 pub mod MomentLaws
+pub mod DisciplineLaws
 pub mod HoldingLaws
 pub mod LeveledLaws
 pub mod LastUseLaws
@@ -27,5 +30,6 @@ pub mod FitLaws
 pub mod AllocatingLaws
 pub mod ProgramLaws
 pub mod CallLaws
+pub mod Examples
 pub mod Theorems
 pub mod DeliveryLaws

@@ -56,7 +56,7 @@ operation c i g s =
     (nextRegister (releaseOperands (isUsedFrom c (suc i)) g s .owners) (releaseOperands (isUsedFrom c (suc i)) g s .freed))
     (registerOf (s .owners) (g .left)) (registerOf (s .owners) (g .right))
 
-turn-code : (c : Circuit) (i : ℕ) (g : Gate) (s : Allocation) → gateTurn c i g s .code ≡ ensureOperands g s .code ++ (operation c i g (ensureOperands g s) ∷ [])
+pub turn-code : (c : Circuit) (i : ℕ) (g : Gate) (s : Allocation) → gateTurn c i g s .code ≡ ensureOperands g s .code ++ (operation c i g (ensureOperands g s) ∷ [])
 unfolding gateTurn assign
 turn-code c i g s =
     ap (λ is. is ++ (operation c i g (ensureOperands g s) ∷ [])) (releases-code (isUsedFrom c (suc i)) g (ensureOperands g s))

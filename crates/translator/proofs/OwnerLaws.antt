@@ -1,8 +1,8 @@
 -- Registers and their owners: who is in which, and which are free. Assumes nothing.
-use mathlib.Core.Path.{_≡_, refl, sym, ap, _∙_}
+use mathlib.Core.Path.{_≡_, refl, sym, ap, ap₂, _∙_}
 use mathlib.Core.Logic.{_≢_}
 use mathlib.Core.Bool.{Bool, true, false, true≢false, _||_, or-true, or-false, or-assoc, or-comm}
-use mathlib.Core.List.{List, [], _∷_, _++_}
+use mathlib.Core.List.{List, [], _∷_, _++_, map}
 use Prim.Native.Nat.{ℕ, zero, suc, _≤_, _<_}
 use native.Mathlib.Nat.{not-suc-le-zero, le-of-suc-le-suc, suc-inj, suc-ne-zero}
 use native.Mathlib.Decide.{decLt, ℕ-discrete}
@@ -14,6 +14,7 @@ use borrow.Author.Tests.{eq-eqb, ne-eqb, eqb-true}
 use Rattle.lists.specs.First.{first}
 use Rattle.circuit.specs.Path.{isAmong}
 use Rattle.circuit.proofs.ValidLaws.{among-head, among-tail}
+use Rattle.translator.specs.Place.{placeIn}
 use Rattle.translator.specs.Allocation.{registerOf, nextRegister, ownersWith}
 
 suc-eqb : (a b : ℕ) → eqb (suc a) (suc b) ≡ eqb a b
@@ -31,7 +32,7 @@ or-swap false b c = refl
 
 -- the register that holds v
 pub register-at : (ws : List ℕ) (v : ℕ) → isAmong (suc v) ws ≡ true → (getD ws (registerOf ws v) 0 ≡ suc v) × (registerOf ws v < length ws)
-unfolding isAmong registerOf
+unfolding isAmong placeIn
 register-at [] v e = absurd (true≢false (sym e))
 register-at (w ∷ ws) v e = go (eqb (suc v) w) refl (register-at ws v)
   where
@@ -58,6 +59,11 @@ among-append x (y ∷ xs) ys = ap (λ b. eqb x y || b) (among-append x xs ys) �
 pub among-last : (x : ℕ) (ws : List ℕ) (w : ℕ) → isAmong x (ws ++ (w ∷ [])) ≡ eqb x w || isAmong x ws
 unfolding isAmong
 among-last x ws w = among-append x ws (w ∷ []) ∙ ap (λ b. isAmong x ws || b) (or-false (eqb x w)) ∙ or-comm (isAmong x ws) (eqb x w)
+
+-- two functions that agree on the members of a list
+pub map-among : {B : Type 0} (f g : ℕ → B) (os : List ℕ) → ((o : ℕ) → isAmong o os ≡ true → f o ≡ g o) → map f os ≡ map g os
+map-among f g [] e = refl
+map-among f g (o ∷ os) e = ap₂ _∷_ (e o (among-head o os)) (map-among f g os (λ x l. e x (among-tail x o os l)))
 
 -- a free register is taken, or a register used for the first time
 pub taken-among : (ws : List ℕ) (d x v : ℕ) → getD ws d 0 ≡ 0 → d < length ws → isAmong (suc v) (set ws d (suc x)) ≡ eqb v x || isAmong (suc v) ws

@@ -1,6 +1,5 @@
 -- The emits behind the loads and operations, and the whole program in the lent buffer. Assumes nothing.
 use mathlib.Core.Path.{_≡_, refl, sym, ap, ap₂, _∙_}
-use mathlib.Core.Bool.{true}
 use mathlib.Core.List.{List, [], _∷_, _++_, map, map-append, append-assoc, append-nil}
 use Prim.Native.Nat.{ℕ, zero, suc, _+_, _≤_, _<_}
 use native.Mathlib.Nat.{add-zero}
@@ -11,7 +10,7 @@ use lib.Seq.{sets, take-suc, take-length}
 use Rattle.lines.specs.Calls.{over}
 use Rattle.circuit.specs.Circuit.{Circuit}
 use Rattle.circuit.specs.Path.{isAmong}
-use Rattle.circuit.proofs.ValidLaws.{Limited, among-head, among-tail}
+use Rattle.circuit.proofs.ValidLaws.{Limited}
 use Rattle.translator.specs.declared.registers.Counts.{Counts}
 use Rattle.translator.specs.Machine.{Instruction, emitting}
 use Rattle.translator.specs.Allocation.{registerOf}
@@ -19,6 +18,7 @@ use Rattle.translator.specs.Allocator.{outputsLoaded, allocationAtEnd}
 use Rattle.translator.specs.Program.{emits, program, encodeProgram, instructionsOf, maxInstructions}
 use Rattle.translator.specs.Registers.{instructionAt, Beyond, Represents}
 use Rattle.translator.proofs.TrimmedLaws.{Trimmed}
+use Rattle.translator.proofs.OwnerLaws.{map-among}
 use Rattle.translator.proofs.AllocatorLaws.{end-holds}
 use Rattle.translator.proofs.ActionLaws.{end-is-program}
 use Rattle.translator.proofs.ShapeLaws.{program-limit}
@@ -63,10 +63,6 @@ module _ (f : ℕ → Instruction) (os : List ℕ) (start : ℕ) (p₀ : List �
     )
 
 -- ---- the program
-
-map-among : {B : Type 0} (f g : ℕ → B) (os : List ℕ) → ((o : ℕ) → isAmong o os ≡ true → f o ≡ g o) → map f os ≡ map g os
-map-among f g [] e = refl
-map-among f g (o ∷ os) e = ap₂ _∷_ (e o (among-head o os)) (map-among f g os (λ x l. e x (among-tail x o os l)))
 
 outputs-longer : (c : Circuit) (j : ℕ) → length (outputsLoaded c 0 .code) ≤ length (outputsLoaded c j .code)
 unfolding outputsLoaded

@@ -73,12 +73,14 @@ shape-emits ws [] = refl
 shape-emits ws (o ∷ os) = ap (λ l. emitting 0 ∷ l) (shape-emits ws os)
 
 module _ (c : Circuit) (k : Trimmed c) where
+  pub code-shape : map withoutRegisters (allocate (c .outputs) (actions c) noRegisters .code) ≡ map instructionOf (actions c)
+  code-shape = shape-allocate (c .outputs) (firstGate (c .inputs)) (actions c) noRegisters (rw (operations-actions c) (k .valid .kinds))
+
   pub program-shape : map withoutRegisters (program c) ≡ map instructionOf (actions c) ++ replicate (length (c .outputs)) (emitting 0)
   unfolding program
   program-shape =
       let s = allocate (c .outputs) (actions c) noRegisters in
-      map-append withoutRegisters (s .code) (emits (s .owners) (c .outputs))
-      ∙ ap₂ _++_ (shape-allocate (c .outputs) (firstGate (c .inputs)) (actions c) noRegisters (rw (operations-actions c) (k .valid .kinds))) (shape-emits (s .owners) (c .outputs))
+      map-append withoutRegisters (s .code) (emits (s .owners) (c .outputs)) ∙ ap₂ _++_ code-shape (shape-emits (s .owners) (c .outputs))
 
   loads-count : length (loadsOf (actions c)) ≡ countBelow (isUsedFrom c 0) (firstGate (c .inputs))
   loads-count =

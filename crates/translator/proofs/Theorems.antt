@@ -3,11 +3,11 @@ use mathlib.Core.Path.{_≡_, refl, sym, ap, ap₂, _∙_}
 use mathlib.Core.Bool.{true}
 use mathlib.Core.List.{List, [], _∷_, _++_, map, append-assoc}
 use mathlib.Core.Option.{Option, none, some, bind-eq-some-iff}
-use Prim.Native.Nat.{ℕ, zero, suc, _+_, _<_}
+use Prim.Native.Nat.{ℕ, zero, suc, _+_, _*_, _<_}
 use native.Mathlib.Nat.{le-trans, not-suc-le-zero, le-of-suc-le-suc}
 use native.Mathlib.Omega.{arith}
-use lib.ListN.{length, drop, getD, replicate, length-replicate}
-use lib.Seq.{drop-cons, drop-length, take-length}
+use lib.ListN.{length, take, drop, getD, replicate, length-replicate}
+use lib.Seq.{drop-cons, drop-length, take-length, take-append-seam}
 use borrow.Author.Tests.{le-ltb}
 use Rattle.circuit.specs.Circuit.{constants, references, noGate}
 use Rattle.circuit.specs.Evaluation.{bitOp, bitOf, startBits}
@@ -26,7 +26,7 @@ use Rattle.translator.specs.Actions.{operandLoads, actionsFrom}
 use Rattle.translator.specs.Program.{program, encodeProgram, instructionsOf}
 use Rattle.translator.specs.Written.{registersWritten}
 use Rattle.translator.specs.TranslateCall.{translating}
-use Rattle.translator.specs.Theorems.{RunWithinLimit, InstructionDoes, InstructionFaults, BitsAndLevels, InstructionsAfterEncode, LastUseDecides, PressureIsNeed, AllocatorIsProgram, ProgramComputes, ProgramEmitsOutputs, NeedIsSome, RegistersWithinNeed, ProgramWritesNeed, ProgramFollowsActions, ProgramCount, ActionsOperateInOrder, ActionsLoadOnce, ActionsLoadAtFirstUse, ActionsLoadForOutputs, ValuesAreHeld, TranslationRuns, TranslationWritesNeed, LimitChangesNothing}
+use Rattle.translator.specs.Theorems.{RunWithinLimit, InstructionDoes, InstructionFaults, BitsAndLevels, InstructionsAfterEncode, LastUseDecides, PressureIsNeed, AllocatorIsProgram, ProgramComputes, ProgramEmitsOutputs, NeedIsSome, RegistersWithinNeed, ProgramWritesNeed, ProgramFollowsActions, ProgramCount, ActionsOperateInOrder, ActionsLoadOnce, ActionsLoadAtFirstUse, ActionsLoadForOutputs, ValuesAreHeld, ProgramIsDisciplined, OneProgram, DisciplinedRuns, TranslationRuns, TranslationWritesNeed, LimitChangesNothing, TranslationIsDisciplined, EqualCircuitsEqualPrograms}
 use Rattle.translator.proofs.CountLaws.{count-some, count-all}
 use Rattle.translator.proofs.TrimmedLaws.{trimmed-of}
 use Rattle.translator.proofs.PressureLaws.{linear-need, outputs-need, distinct-count}
@@ -36,11 +36,12 @@ use Rattle.translator.proofs.FaultLaws.{full, fault-executes, executes-
 use Rattle.translator.proofs.ComputeLaws.{end-computes}
 use Rattle.translator.proofs.ActionLaws.{end-is-program}
 use Rattle.translator.proofs.LoadLaws.{operations-actions, actions-split, output-operations, operand-occurrences, output-occurrences, actions-occurrences}
-use Rattle.translator.proofs.ShapeLaws.{program-shape, program-length, program-limit, instructions-encode}
+use Rattle.translator.proofs.ShapeLaws.{program-shape, program-length, program-limit, encode-length, instructions-encode}
 use Rattle.translator.proofs.RegisterLaws.{run-within}
 use Rattle.translator.proofs.WrittenLaws.{written-used, program-writes}
 use Rattle.translator.proofs.LeveledLaws.{levels-at, bits-long, starts-long, leveled-length, leveledOutputs, emitted-bits, emitted-levels}
 use Rattle.translator.proofs.MomentLaws.{after-code}
+use Rattle.translator.proofs.DisciplineLaws.{disciplined-same, program-disciplined}
 use Rattle.translator.proofs.HoldingLaws.{holding-before, holding-after, holding-end}
 use Rattle.translator.proofs.LastUseLaws.{used-from}
 use Rattle.translator.proofs.CallLaws.{Translation, translation-is}
@@ -211,6 +212,24 @@ values-are-held A op z start t w l limit enough =
       holding-end op z start c k l limit enough,
     )
 
+-- ---- one program
+
+pub program-is-disciplined : ProgramIsDisciplined
+program-is-disciplined t w = program-disciplined (trim (decode t)) (trimmed-of t w)
+
+pub one-program : OneProgram
+one-program = disciplined-same
+
+pub disciplined-runs : DisciplinedRuns
+disciplined-runs t w p d =
+    let c = trim (decode t) in
+    let e = one-program c p (program c) d (program-is-disciplined t w) in (
+      rw e (program-writes-need t w),
+      λ bytes l limit h.
+          let (es, r, bits, levels, top) = program-emits-outputs t w bytes l limit h in
+          (es, ap (runOn (decode t) bytes limit) e ∙ r, bits, levels, top),
+    )
+
 -- ---- the call
 
 module _ (t : List ℕ) (limit : ℕ) (buffer after : List ℕ) (count n : ℕ) (x : Translation t limit buffer after count n) where
@@ -219,6 +238,12 @@ module _ (t : List ℕ) (limit : ℕ) (buffer after : List ℕ) (count n : ℕ) 
   read-back =
       let p = program (trim (decode t)) in
       ap₂ instructionsOf (x .counted) (x .written) ∙ instructions-after-encode p (drop (length (encodeProgram p)) buffer)
+
+  -- or as numbers
+  numbers : take (4 * count) after ≡ encodeProgram (program (trim (decode t)))
+  numbers =
+      let p = program (trim (decode t)) in
+      ap₂ take (ap (λ k. 4 * k) (x .counted) ∙ sym (encode-length p)) (x .written) ∙ take-append-seam (encodeProgram p) (drop (length (encodeProgram p)) buffer)
 
 pub translation-runs : TranslationRuns
 translation-runs t limit buffer after count n e =
@@ -239,3 +264,19 @@ pub limit-changes-nothing : LimitChangesNothing
 unfolding translating
 limit-changes-nothing t limit other buffer a b h k =
     let n = need (trim (decode t)) in rw (a, b, le-ltb limit n h, le-ltb other n k)
+
+pub translation-is-disciplined : TranslationIsDisciplined
+translation-is-disciplined t limit buffer after count n e =
+    let x = translation-is t limit buffer after count n e in
+    let back = read-back t limit buffer after count n x in
+    let d = program-is-disciplined t (accepted-is-well-formed t .0 (x .accepted)) in
+    (rw back d, λ p q. one-program (trim (decode t)) p (program (trim (decode t))) q d ∙ sym back)
+
+pub equal-circuits-equal-programs : EqualCircuitsEqualPrograms
+equal-circuits-equal-programs t t′ limit limit′ buffer buffer′ after after′ count count′ n n′ same e f =
+    let x = translation-is t limit buffer after count n e in
+    let y = translation-is t′ limit′ buffer′ after′ count′ n′ f in (
+      x .counted ∙ ap (λ c. length (program c)) same ∙ sym (y .counted),
+      x .needed ∙ ap need same ∙ sym (y .needed),
+      numbers t limit buffer after count n x ∙ ap (λ c. encodeProgram (program c)) same ∙ sym (numbers t′ limit′ buffer′ after′ count′ n′ y),
+    )

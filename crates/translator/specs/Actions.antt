@@ -1,5 +1,5 @@
--- 01, Register program, 8 and 11: the program without registers, which is between the circuit and the program. It is a list of loads
--- and gate operations, each known by the reference whose value it makes; the emits of the outputs are not among them.
+-- 01, Register program, 8 and 11, and 02, 2026-05, 3: the program without registers, which is between the circuit and the program. It is a
+-- list of loads and gate operations, each known by the reference whose value it makes; the emits of the outputs are not among them.
 use Prim.Native.Nat.{ℕ, suc, _+_}
 use mathlib.Core.Bool.{Bool, false, not, _&&_, _||_}
 use mathlib.Core.List.{List, [], _∷_, _++_}

@@ -1,15 +1,16 @@
--- Which register each value takes. 01 leaves it open (Register program, 12); here a new value takes the register that was freed last of
--- those that are free, or else the lowest never used, and an operation frees its left operand before its right one.
+-- 02, 2026-05: which register each value takes, as the program is computed. A new value takes the register that was freed last of those
+-- that are free, or else the lowest never used, and an operation frees its left operand before its right one. 01 leaves this open (Register
+-- program, 12). The same as a property of programs is in Discipline.antt.
 use Prim.Native.Nat.{ℕ, suc}
 use mathlib.Core.Bool.{Bool, true, false, _||_}
 use mathlib.Core.List.{List, [], _∷_, _++_}
 use lib.Dec.{eqb}
 use lib.ListN.{length, set}
-use Rattle.lists.specs.First.{first}
 use Rattle.circuit.specs.Circuit.{Gate}
 use Rattle.circuit.specs.Path.{isAmong}
 use Rattle.translator.specs.Machine.{Instruction, loading, operating}
 use Rattle.translator.specs.Actions.{Action, load, operate, isRead}
+use Rattle.translator.specs.Place.{placeIn}
 
 -- `owners` has a place for each register used so far: 0 if the register is free, else 1 more than the reference whose value it holds.
 -- `freed` is the stack of free registers, the one freed last on top. `code` is the program so far.
@@ -22,9 +23,8 @@ abbrev pub noRegisters : Allocation
 noRegisters = record { owners = []; freed = []; code = [] }
 
 -- the register that holds v; as many as there are, if none does
-unfoldable pub registerOf : (owners : List ℕ) (v : ℕ) → ℕ
-registerOf [] v = 0
-registerOf (w ∷ ws) v = first (eqb (suc v) w) 0 (suc (registerOf ws v))
+abbrev pub registerOf : (owners : List ℕ) (v : ℕ) → ℕ
+registerOf owners v = placeIn owners (suc v)
 
 -- the register that is taken next, the stack without it, and the owners with v in it
 abbrev pub nextRegister : (owners freed : List ℕ) → ℕ

@@ -4,6 +4,7 @@ pub mod LeveledBit
 pub mod LiveRange
 pub mod Need
 pub mod Actions
+pub mod Place
 pub mod Allocation
 pub mod Program
 pub mod LastUse
@@ -12,6 +13,9 @@ pub mod Allocator
 pub mod Registers
 pub mod Shape
 pub mod Written
+pub mod LoadOrder
+pub mod History
+pub mod Discipline
 pub mod Moment
 pub mod TranslateCall
 pub mod SafeDelivery

@@ -36,6 +36,7 @@ use Rattle.translator.specs.Pressure.{oneIf, linearNeed}
 use Rattle.translator.specs.Allocator.{allocationAfter, allocationBefore, allocationAtEnd}
 use Rattle.translator.specs.Shape.{withoutRegisters, instructionOf, registersIn, occurrences}
 use Rattle.translator.specs.Written.{WritesExactly}
+use Rattle.translator.specs.Discipline.{Disciplined}
 use Rattle.translator.specs.Moment.{Holding}
 use Rattle.translator.specs.TranslateCall.{programNumbers, isLimit, translating}
 use Rattle.translator.specs.SafeDelivery.{SafeDelivery}
@@ -190,6 +191,28 @@ ValuesAreHeld =
     × ((o : Instruction) × (allocationAfter (trim (decode t)) (suc i) .code ≡ allocationBefore (trim (decode t)) i .code ++ (o ∷ []))))
     × Holding op z start limit (trim (decode t)) (length (trim (decode t) .gates)) (allocationAtEnd (trim (decode t))) (isHeldAtEnd (trim (decode t)))
 
+-- ---- 02, 2026-05: one program
+
+-- The program has the discipline.
+abbrev pub ProgramIsDisciplined : Type 0
+ProgramIsDisciplined = (t : List ℕ) → WellFormed t → Disciplined (trim (decode t)) (program (trim (decode t)))
+
+-- Programs of one circuit that have it are the same, instruction by instruction.
+abbrev pub OneProgram : Type 0
+OneProgram = (c : Circuit) (p q : List Instruction) → Disciplined c p → Disciplined c q → p ≡ q
+
+-- Whatever has the discipline runs as was promised of the translator's program (01), and writes the registers that 02, 2026-03, promises.
+abbrev pub DisciplinedRuns : Type 0
+DisciplinedRuns =
+    (t : List ℕ) → WellFormed t → (p : List Instruction) → Disciplined (trim (decode t)) p
+    → WritesExactly (need (trim (decode t))) p
+    × ((bytes : List ℕ) → length bytes ≡ inputs t → (limit : ℕ) → need (trim (decode t)) ≤ limit
+    → (emitted : List LeveledBit)
+    × (runOn (decode t) bytes limit p ≡ some emitted)
+    × (map (λ b. b .bit) emitted ≡ evaluate (decode t) bytes)
+    × (map (λ b. b .level) emitted ≡ map (depth (decode t)) (decode t .outputs))
+    × (largest (map (λ b. b .level) emitted) ≡ circuitDepth (decode t)))
+
 -- ---- the call
 
 -- What a success answers with is the need and a program at the front of the buffer, which on a machine with that limit emits the outputs'
@@ -217,6 +240,22 @@ LimitChangesNothing =
     (t : List ℕ) (limit other : ℕ) (buffer : List ℕ) → isLimit limit ≡ true → isLimit other ≡ true
     → need (trim (decode t)) ≤ limit → need (trim (decode t)) ≤ other → translating t limit buffer ≡ translating t other buffer
 
+-- 02, 2026-05: what a success leaves is the one program of the trimmed circuit that has the discipline.
+abbrev pub TranslationIsDisciplined : Type 0
+TranslationIsDisciplined =
+    (t : List ℕ) (limit : ℕ) (buffer after : List ℕ) (count n : ℕ)
+    → translating t limit buffer ≡ leaving (gives (count ∷ n ∷ [])) after
+    → Disciplined (trim (decode t)) (instructionsOf count after)
+    × ((p : List Instruction) → Disciplined (trim (decode t)) p → p ≡ instructionsOf count after)
+
+-- So a store can compare programs number by number: circuits that are equal when trimmed have equal ones, whatever the limits and buffers were.
+abbrev pub EqualCircuitsEqualPrograms : Type 0
+EqualCircuitsEqualPrograms =
+    (t t′ : List ℕ) (limit limit′ : ℕ) (buffer buffer′ after after′ : List ℕ) (count count′ n n′ : ℕ) → trim (decode t) ≡ trim (decode t′)
+    → translating t limit buffer ≡ leaving (gives (count ∷ n ∷ [])) after
+    → translating t′ limit′ buffer′ ≡ leaving (gives (count′ ∷ n′ ∷ [])) after′
+    → (count ≡ count′) × (n ≡ n′) × (take (4 * count) after ≡ take (4 * count′) after′)
+
 -- ---- demand 3
 
 -- The whole list is safe, for every circuit, rules, sites and input bytes that are not refused.
@@ -229,7 +268,7 @@ DeliveryIsSafe =
 -- kept), its result begins with a table of as many lines, its verdicts with one a site, of which as many are 0 as were kept, and the
 -- numbers are bounded as above. Given that table, a limit from 1 to 1,024 and a buffer that is long enough, `translate` pleads 10 exactly
 -- below the need; and what it leaves after a success, run with its limit, emits the bits of the circuit first read, the new D as the highest
--- level, and writes exactly as many different registers as the need, all below it (02, 2026-03).
+-- level, writes exactly as many different registers as the need, all below it (02, 2026-03), and has the discipline (02, 2026-05).
 abbrev pub CallsDeliver : Type 0
 CallsDeliver =
     (circuit rules sites result work verdicts values : List ℕ)
@@ -249,4 +288,5 @@ CallsDeliver =
     × (runOn (decode circuit) bytes limit (instructionsOf count after) ≡ some emitted)
     × (map (λ b. b .bit) emitted ≡ evaluate (decode circuit) bytes)
     × (largest (map (λ b. b .level) emitted) ≡ getD values 3 0)
-    × WritesExactly (need (handedBack circuit rules sites)) (instructionsOf count after)))
+    × WritesExactly (need (handedBack circuit rules sites)) (instructionsOf count after)
+    × Disciplined (handedBack circuit rules sites) (instructionsOf count after)))

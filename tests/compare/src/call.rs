@@ -15,7 +15,6 @@ pub struct Call<'a> {
     numbers: Vec<u32>,
     /// The verdicts that were given, for the coverage.
     pub verdicts: Vec<Verdict>,
-    complaint: Option<String>,
 }
 
 impl<'a> Call<'a> {
@@ -32,7 +31,6 @@ impl<'a> Call<'a> {
             slices,
             numbers: Vec::new(),
             verdicts: Vec::new(),
-            complaint: None,
         }
     }
 
@@ -46,11 +44,6 @@ impl<'a> Call<'a> {
         self
     }
 
-    pub fn with_complaint(mut self, complaint: Option<String>) -> Call<'a> {
-        self.complaint = complaint;
-        self
-    }
-
     /// What differs: the result, taken apart or as one number, and the first place of each slice.
     pub fn complaints(&self) -> Vec<String> {
         let (result, expected) = (self.result, &self.expected);
@@ -60,8 +53,7 @@ impl<'a> Call<'a> {
         let result =
             wrong.then(|| format!("result {result} {unpacked:?}, not {packed} {expected:?}"));
         let slices = self.slices.iter().filter_map(|slice| slice.difference());
-        let complaint = self.complaint.clone();
-        result.into_iter().chain(slices).chain(complaint).collect()
+        result.into_iter().chain(slices).collect()
     }
 
     pub fn shown(&self) -> String {

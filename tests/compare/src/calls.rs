@@ -1,14 +1,14 @@
 //! Each call of the library beside the evaluator's: the result, and every place of every slice afterwards.
 
-use evaluator::checking::{check_program, check_registers};
 use evaluator::circuit::{CIRCUIT_NUMBERS, MOST_OUTPUTS};
 use evaluator::depth::{self, Pair};
+use evaluator::discipline::check_discipline;
 use evaluator::finding::{self, Found};
 use evaluator::lines::{self, Line, LINE_BYTES};
 use evaluator::listing::{self, LISTING_BYTES};
 use evaluator::machine::INSTRUCTION_NUMBERS;
 use evaluator::random::Random;
-use evaluator::refusal::{overwrite, Answer};
+use evaluator::refusal::Answer;
 use evaluator::rewriting::{self, Rewritten};
 use evaluator::rules::{self, Verdict};
 use evaluator::sites::MOST_SITES;
@@ -151,7 +151,7 @@ impl Calls<'_> {
         );
         let mut told = Vec::new();
         if answer.is_ok() {
-            work.leave_open(work.len());
+            work.leave_open();
             told.extend_from_slice(&verdicts.expected()[..sites.len() / LINE_NUMBERS - 1]);
         }
         let expected = answer.map(rewritten_values);
@@ -159,55 +159,32 @@ impl Calls<'_> {
         self.settle(Call::new(&REWRITE, packed, expected, slices).with_verdicts(told.iter()));
     }
 
-    /// The register choices are open, so the program is not compared but judged, on a machine of as many registers as the need.
+    /// Each circuit has just one program (02, 2026-05), which is compared like every other buffer.
     pub fn translate(&mut self, circuit: &[u32], limit: u32) {
         let mut given = self.given("circuit", circuit);
         let mut program = self.lent("program", PROGRAM_NUMBERS);
         let answer = translation::translate(circuit, limit, program.expected());
         let result = translate_call(&mut given, limit, &mut program);
-        let mut complaint = None;
-        if let Ok(translated) = answer {
-            let numbers = INSTRUCTION_NUMBERS * translated.instructions;
-            let need = translated.need as u32;
-            program.leave_open(numbers);
-            complaint = check_program(circuit, need, &program.contents()[..numbers], need).err();
-        }
         let expected = answer.map(|done| vec![done.need as u64, done.instructions as u64]);
         let call = Call::new(&TRANSLATE, result, expected, vec![&given, &program]);
-        self.settle(call.with_numbers(&[limit]).with_complaint(complaint));
-        self.try_registers(circuit, limit, result, program.contents());
+        self.settle(call.with_numbers(&[limit]));
     }
 
-    /// 02, 2026-03, after a success: as many registers are written as the need that it answered with, each below it. And, which is
-    /// more than it asks, other limits that are not below the need leave the same numbers.
-    fn try_registers(&mut self, circuit: &[u32], limit: u32, result: u64, program: &[u32]) {
-        let Ok(&[need, instructions]) = TRANSLATE.unpacked(result).as_deref() else {
+    /// The program that the library leaves, judged and run as it stands: of what it must be, this is a second reading, without the
+    /// evaluator's translator.
+    pub fn judge_program(&mut self, circuit: &[u32]) {
+        let mut given = self.given("circuit", circuit);
+        let mut program = Slice::lent(&mut self.random, "program", PROGRAM_NUMBERS);
+        let result = translate_call(&mut given, MOST_REGISTERS, &mut program);
+        let Ok(&[_, instructions]) = TRANSLATE.unpacked(result).as_deref() else {
             return;
         };
-        let need = need as u32;
-        let left = program.get(..INSTRUCTION_NUMBERS * instructions as usize);
-        let left = left.unwrap_or_default();
-        let complaint = check_registers(left, need).err();
+        let numbers = INSTRUCTION_NUMBERS * instructions as usize;
+        let left = program.contents().get(..numbers).unwrap_or_default();
+        let complaint = check_discipline(circuit, left).err();
         self.tally.test(complaint.as_slice(), || {
-            format!("{}: registers at limit {limit}", self.case)
+            format!("{}: program of {}", self.case, given.shown())
         });
-        for other in [need, MOST_REGISTERS] {
-            if other != limit {
-                self.translate_again(circuit, other, result, left);
-            }
-        }
-    }
-
-    /// Translates what was translated before: the result and the program are the same.
-    fn translate_again(&mut self, circuit: &[u32], limit: u32, result: u64, left: &[u32]) {
-        let mut given = self.given("circuit", circuit);
-        let room = PROGRAM_NUMBERS.max(left.len());
-        let mut program = Slice::lent(&mut self.random, "program", room);
-        overwrite(program.expected(), left);
-        let again = translate_call(&mut given, limit, &mut program);
-        let expected = TRANSLATE.unpacked(result);
-        let call = Call::new(&TRANSLATE, again, expected, vec![&given, &program]);
-        self.settle(call.with_numbers(&[limit]));
     }
 
     pub fn listing(&mut self, [circuit, rules, sites]: [&[u8]; 3]) {

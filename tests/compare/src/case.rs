@@ -16,9 +16,9 @@ use crate::calls::Calls;
 use crate::numbers::{
     alter, any_lines, odd_number, spoil_run, spoil_table, spoil_text, LINE_NUMBERS,
 };
-use crate::shapes::{chained, crowded, full, overfull, symmetric};
+use crate::shapes::{chained, crowded, full, handed_on, overfull, symmetric};
 
-/// How many rules are judged, sites matched and searched, and limits tried in a case or search.
+/// How many rules are judged, sites matched and searched, and limits picked in a case or search.
 const JUDGED: u32 = 6;
 const MATCHED: usize = 5;
 const SEARCHED: usize = 2;
@@ -80,6 +80,7 @@ impl Case {
 fn texts(random: &mut Random, seed: u64, number: u64) -> [Vec<u8>; 3] {
     let draft = match number % 200 {
         7 => crowded(random),
+        31 | 131 => handed_on(random),
         57 | 157 => overfull(random),
         107 => full(random),
         113 => full(random).with_wrong_starts(random),
@@ -198,16 +199,18 @@ fn end_site(random: &mut Random, circuit: &[u32], rules: &[u32]) -> Line {
     [rule as u32, last as u32, 0]
 }
 
-/// The translator at limits around the need and at the ends of the range.
+/// The translator at the need and at the largest limit, which have the same program, and at others around the need, at the ends
+/// of the range and outside it.
 fn try_translate(calls: &mut Calls, circuit: &[u32]) {
     let need = need(circuit).unwrap_or(9);
     let any = odd_number(&mut calls.random, need);
     let most = MOST_REGISTERS;
-    let limits = [0, 1, need - 1, need, need, need + 1, most, most + 1, any];
-    for _ in 0..LIMITS {
-        let limit = calls.random.pick(&limits);
+    let limits = [0, 1, need - 1, need + 1, most + 1, any];
+    let others = [0; LIMITS].map(|_| calls.random.pick(&limits));
+    for limit in [need, most].into_iter().chain(others) {
         calls.translate(circuit, limit);
     }
+    calls.judge_program(circuit);
 }
 
 /// The need of a circuit's table, if it is one.

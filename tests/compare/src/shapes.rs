@@ -60,6 +60,24 @@ pub fn crowded(random: &mut Random) -> Draft {
     with_stock(random, circuit)
 }
 
+/// A circuit that hands on many of its inputs as they are, in any order and some of them several times, beside a few gates: most of
+/// the loads are before the emits.
+pub fn handed_on(random: &mut Random) -> Draft {
+    let inputs = random.between(1, MOST_INPUTS as usize);
+    let first = CONSTANTS + inputs;
+    let mut gates = any_gates(random, first);
+    gates.push(any_gate(random, Kind::And, first + gates.len()));
+    let end = first + gates.len();
+    let count = random.between(1, MOST_OUTPUTS as usize);
+    let circuit = Circuit {
+        inputs,
+        starts: some_starts(random, inputs),
+        gates,
+        outputs: (0..count).map(|_| random.below(end)).collect(),
+    };
+    with_stock(random, circuit)
+}
+
 /// A circuit of as many inputs, gates and outputs as there may be, all gates live, and both constants and all inputs used; in half
 /// the cases with as many starting lines too.
 pub fn full(random: &mut Random) -> Draft {

@@ -106,9 +106,9 @@ impl<T: Element> Slice<T> {
         &mut self.expected[self.place.clone()]
     }
 
-    /// Takes what the first places hold as expected, whatever it is.
-    pub fn leave_open(&mut self, count: usize) {
-        let open = self.place.start..self.place.start + count;
+    /// Takes what the slice holds as expected, whatever it is.
+    pub fn leave_open(&mut self) {
+        let open = self.place.clone();
         self.expected[open.clone()].copy_from_slice(&self.memory[open]);
     }
 }

@@ -1,5 +1,6 @@
 //! Checks any register program against 01, Register program, and 02, 2026-01
-//! and 2026-03.
+//! and 2026-03, whichever free registers it takes and in whichever order it
+//! loads: these are judged by [`crate::discipline`].
 
 use std::collections::{BTreeSet, HashMap};
 
@@ -10,7 +11,7 @@ use crate::holding::{after, before, Holding, Moment};
 use crate::lines::lines_of_table;
 use crate::machine::{run, Instruction, Value, EMIT, INSTRUCTION_NUMBERS, LOAD};
 use crate::random::Random;
-use crate::refusal::{Refusal, CIRCUIT};
+use crate::refusal::CIRCUIT;
 use crate::registers::registers_written;
 use crate::translation::{instruction_count, is_limit};
 
@@ -20,10 +21,10 @@ const RUNS: usize = 16;
 /// What is wrong with a program, in words.
 pub type Checked = Result<(), String>;
 
-/// Whether a program (its numbers, nothing beyond) and a need are what the
-/// translator owes for a circuit's table and a limit.
+/// Whether a program (its numbers, nothing beyond) and a need do what is asked
+/// for a circuit's table and a limit.
 pub fn check_program(circuit: &[u32], limit: u32, program: &[u32], need: u32) -> Checked {
-    let circuit = circuit_of(circuit).map_err(|refusal| format!("circuit: {refusal:?}"))?;
+    let circuit = circuit_of(circuit)?;
     let trimmed = circuit.trimmed();
     let holding = Holding::of(&trimmed);
     demand(is_limit(limit), || format!("limit {limit}"))?;
@@ -52,7 +53,7 @@ pub fn check_registers(program: &[u32], need: u32) -> Checked {
     })
 }
 
-fn demand(condition: bool, complaint: impl Fn() -> String) -> Checked {
+pub(crate) fn demand(condition: bool, complaint: impl Fn() -> String) -> Checked {
     if condition {
         Ok(())
     } else {
@@ -60,8 +61,9 @@ fn demand(condition: bool, complaint: impl Fn() -> String) -> Checked {
     }
 }
 
-fn circuit_of(table: &[u32]) -> Result<Circuit, Refusal> {
-    Circuit::checked(&lines_of_table(table, CIRCUIT)?)
+pub(crate) fn circuit_of(table: &[u32]) -> Result<Circuit, String> {
+    let circuit = lines_of_table(table, CIRCUIT).and_then(|lines| Circuit::checked(&lines));
+    circuit.map_err(|refusal| format!("circuit: {refusal:?}"))
 }
 
 /// Follows a program, knowing whose value each register holds.
@@ -90,6 +92,8 @@ impl<'a> Reader<'a> {
             demand(kind == gate.kind.number(), || {
                 format!("gate {index}: kind {kind}")
             })?;
+            // 02, 2026-05: a is the left operand, though the bits and levels
+            // would be the same the other way round.
             self.reads(a, gate.left)?;
             self.reads(b, gate.right)?;
             self.writes(d, trimmed.first_gate() + index, after(index))?;
@@ -110,7 +114,7 @@ impl<'a> Reader<'a> {
         numbers.try_into().map_err(|_| "torn".to_string())
     }
 
-    /// Exactly the loads of a moment, in any order.
+    /// Exactly the loads of a moment, whichever comes first.
     fn loads(&mut self, moment: Moment) -> Checked {
         let mut owed: BTreeSet<usize> = self.holding.loads_at(moment).into_iter().collect();
         while !owed.is_empty() {

@@ -1,5 +1,5 @@
 //! An independent reading of paper 01, "The depth rewriter and its rules", and
-//! of requests 2026-01 to 2026-04 of paper 02, "More changes customers want".
+//! of requests 2026-01 to 2026-05 of paper 02, "More changes customers want".
 //!
 //! Everything here is plain and slow on purpose: each function renders a
 //! sentence or two of the papers, named in its comment by section. Nothing is
@@ -9,13 +9,16 @@
 //! [`depth::measure`], [`rules::judge`], [`matching::match_site`],
 //! [`finding::find_mask`], [`rewriting::rewrite`], [`translation::translate`],
 //! [`listing::listing`] and [`listing::program_output`]. The register programs
-//! of others are judged by [`checking::check_program`] and run by
-//! [`machine::run`]; [`registers::registers_written`] says what they write.
+//! of others are judged by [`checking::check_program`], whatever registers they
+//! take, and by [`discipline::check_discipline`], which lets one pass for each
+//! circuit; they are run by [`machine::run`], and
+//! [`registers::registers_written`] says what they write.
 
 pub mod cases;
 pub mod checking;
 pub mod circuit;
 pub mod depth;
+pub mod discipline;
 pub mod evaluation;
 pub mod finding;
 pub mod gates;

@@ -1,4 +1,5 @@
-//! A simple translator of its own (01, Register program; 02, 2026-03).
+//! A simple translator of its own (01, Register program; 02, 2026-03 and
+//! 2026-05).
 
 use crate::circuit::Circuit;
 use crate::holding::{after, before, Holding, Moment};
@@ -53,9 +54,10 @@ pub fn instruction_count(trimmed: &Circuit, holding: &Holding) -> usize {
     trimmed.gates.len() + holding.loads() + trimmed.outputs.len()
 }
 
-/// The program. Of what 01 leaves open: a value takes the register that was
-/// freed last, or else the lowest never used; a gate's left operand is loaded
-/// and freed before its right one, and outputs' loads are in output order.
+/// The circuit's one program (02, 2026-05). Of a gate's operands the left comes
+/// first: in its load, as a, and in its freeing. The result takes a register
+/// only then, as it may have that of an operand (01). What outputs alone use is
+/// loaded in their order.
 fn allocated(trimmed: &Circuit, holding: &Holding) -> Vec<Instruction> {
     let mut allocator = Allocator::of(holding);
     for (index, gate) in trimmed.gates.iter().enumerate() {
@@ -79,7 +81,8 @@ struct Allocator<'a> {
     holding: &'a Holding,
     /// The reference whose value each register holds.
     owners: Vec<Option<usize>>,
-    /// The free registers, the one freed last at the end.
+    /// The registers that were freed and are still free, in the order in which
+    /// they were.
     freed: Vec<usize>,
     program: Vec<Instruction>,
 }
@@ -94,7 +97,8 @@ impl Allocator<'_> {
         }
     }
 
-    /// Loads those of the references that are to be loaded now, in their order.
+    /// Loads those of the references that are due now, in the order in which
+    /// they are named (02, 2026-05). Named twice, one is loaded once (01).
     fn load(&mut self, references: &[usize], moment: Moment) {
         let due = self.holding.loads_at(moment);
         for &reference in references {
@@ -105,7 +109,9 @@ impl Allocator<'_> {
         }
     }
 
-    /// Frees the registers of those references that are no longer held, in their order.
+    /// Frees the registers of those references that were just used for the last
+    /// time, in the order in which they are named (02, 2026-05). That of equal
+    /// operands is without an owner the second time, and so it is freed once.
     fn free(&mut self, references: &[usize], moment: Moment) {
         for &reference in references {
             if !self.holding.is_held(reference, moment) {
@@ -117,6 +123,8 @@ impl Allocator<'_> {
         }
     }
 
+    /// Of the free registers the one freed last; if all that were freed are
+    /// taken again, the lowest that was never used (02, 2026-05).
     fn take(&mut self, reference: usize) -> u32 {
         let register = self.freed.pop().unwrap_or_else(|| {
             self.owners.push(None);

@@ -149,7 +149,7 @@ fn the_largest_limit_and_a_need_above_it() {
 }
 
 #[test]
-fn the_checker_takes_every_free_choice() {
+fn the_checker_takes_any_free_register_and_any_order_of_loads() {
     let circuit = SHARED.concat();
     let accepts =
         |program: &[[u32; 4]], limit| check_program(&circuit, limit, &program.concat(), 2).is_ok();
