@@ -94,7 +94,8 @@ uint64_t napspruce_evaluate(const uint32_t *circuit, size_t circuit_len, const u
                             uint8_t *outputs, size_t outputs_len);
 
 /* Gives the multiplicative depth D of a circuit, up to 2,303, and its critical count N: the number of live AND gates whose depth, with the most
- * AND gates that lie above them on a path to an output, makes D.
+ * AND gates that lie above them on a path to an output, makes D. An AND that has a constant, reference 0 or 1, on either side counts nowhere: it is
+ * as deep as an XOR would be.
  * Refusals: 1, 4, 5, 11, 6, 7 of the circuit. */
 uint64_t napspruce_measure(const uint32_t *circuit, size_t circuit_len);
 
@@ -134,7 +135,8 @@ uint64_t napspruce_rewrite(const uint32_t *circuit, size_t circuit_len, const ui
 
 /* Trims the circuit and translates it to a program for a machine of `limit` registers, into `program`, of NAPSPRUCE_PROGRAM numbers at least,
  * four an instruction: (4, d, reference, 0) loads a constant or input into register d, an input at its starting level; (1, d, a, b) and
- * (2, d, a, b) put the XOR or AND of registers a and b into d; (3, a, 0, 0) emits register a. Gives the need and the number of
+ * (2, d, a, b) put the XOR or AND of registers a and b into d, at the larger of their levels, AND one above it unless the last write
+ * into a or b was the load of a constant; (3, a, 0, 0) emits register a. The highest level emitted is D. Gives the need and the number of
  * instructions. Every limit that is not below the need gives the same program: it writes exactly as many different registers as the need, and
  * their numbers are all below the need, so that memory for so many is enough. A circuit has one program: a holds the left operand, b the right;
  * of two operands to be loaded the left one comes first, and what only outputs use is loaded in their order; an operation frees the registers

@@ -1,7 +1,7 @@
 //! Depth and critical count.
 
 use super::circuit::{Circuit, MOST_REFERENCES};
-use super::gates::AND;
+use super::gates::{AND, CONSTANTS};
 use super::lines::{lines_of, Line};
 use super::refusal::{Answer, CIRCUIT};
 use super::rules::MOST_SIDE_GATES;
@@ -34,6 +34,9 @@ pub struct Survey {
     pub depth: Places,
     /// 0 if no output reaches the place, else 1 more than its above.
     pub reach: Places,
+    /// A gate's place whose uses are uses of a constant, though they don't say
+    /// so; 0, which is a constant's own, if there is no such gate.
+    pub constant: usize,
 }
 
 impl Survey {
@@ -41,6 +44,7 @@ impl Survey {
         Survey {
             depth: [0; MOST_PLACES],
             reach: [0; MOST_PLACES],
+            constant: 0,
         }
     }
 
@@ -61,11 +65,23 @@ impl Survey {
     /// until they are added; made a number at once, it took measuring 3 to 6 %
     /// longer.
     pub fn rise(&mut self, gates: &[Line], base: usize) {
-        for (own, &[kind, left, right]) in (base..).zip(gates) {
-            let is_and = kind == AND;
-            let larger = self.depth[left as usize].max(self.depth[right as usize]);
-            self.depth[own] = u16::from(is_and) + larger;
+        for (own, &gate) in (base..).zip(gates) {
+            let counts = self.counts(gate);
+            let [_, left, right] = gate.map(|number| number as usize);
+            let larger = self.depth[left].max(self.depth[right]);
+            self.depth[own] = u16::from(counts) + larger;
         }
+    }
+
+    /// Whether a gate counts for depth, above and N: an AND without a constant
+    /// as an operand does. The tests end at the first that fails; with all of
+    /// them made for every gate, measuring took a quarter longer.
+    fn counts(&self, [kind, left, right]: Line) -> bool {
+        let varies = |operand: u32| {
+            let operand = operand as usize;
+            operand >= CONSTANTS && operand != self.constant
+        };
+        kind == AND && varies(left) && varies(right)
     }
 
     /// Starts the reaches, all of them 0, at the outputs; gives D.
@@ -83,16 +99,17 @@ impl Survey {
     /// number of critical gates in the block.
     pub fn fall(&mut self, gates: &[Line], base: usize, depth: u32) -> u32 {
         let mut critical = 0;
-        for (index, &[kind, left, right]) in gates.iter().enumerate().rev() {
+        for (index, &gate) in gates.iter().enumerate().rev() {
             let reach = self.reach[base + index];
             if reach == 0 {
                 continue;
             }
-            let is_and = kind == AND;
-            self.extend(left as usize, reach + u16::from(is_and));
-            self.extend(right as usize, reach + u16::from(is_and));
+            let counts = self.counts(gate);
+            let [_, left, right] = gate.map(|number| number as usize);
+            self.extend(left, reach + u16::from(counts));
+            self.extend(right, reach + u16::from(counts));
             let path = u32::from(self.depth[base + index] + reach - 1);
-            critical += u32::from(is_and && path == depth);
+            critical += u32::from(counts && path == depth);
         }
         critical
     }

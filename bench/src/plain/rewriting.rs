@@ -4,7 +4,7 @@ use std::mem;
 
 use super::circuit::{Circuit, CIRCUIT_NUMBERS, MOST_GATES, MOST_LINES, MOST_OUTPUTS};
 use super::depth::{Pair, Places, Survey, MOST_PLACES};
-use super::gates::CLOSING;
+use super::gates::{CLOSING, CONSTANTS};
 use super::lines::{lines_of, Line};
 use super::matching::{bind, Bindings};
 use super::refusal::{require_room, Answer, CIRCUIT, RULES, SITES};
@@ -216,6 +216,8 @@ impl<'a, 'b, 'c> Run<'a, 'b, 'c> {
         let gates = &self.lines[self.trimmer.top..][..self.gates];
         let (below, above) = new.around(gates, first);
         let survey = &mut *self.survey;
+        // The gates above still name the gate, and not yet what its uses become.
+        survey.constant = if new.closing < CONSTANTS { new.gate } else { 0 };
         survey.depth[..new.gate].copy_from_slice(&self.trimmer.depth[..new.gate]);
         survey.rise(new.right(), new.base);
         survey.depth[new.gate] = survey.depth[new.closing];

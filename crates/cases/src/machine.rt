@@ -1,4 +1,4 @@
-// The register machine of 01, to run what `translate` wrote.
+// The register machine of 01 and 02, to run what `translate` wrote.
 use crate::printing::print_byte;
 use crate::printing::print_number;
 use circuit::checked::CONSTANTS;
@@ -13,6 +13,11 @@ pub const MAX_LIMIT: u32 = MAX_REGISTERS as u32;
 
 // What stands for an empty register, and for the bit of a reference that is neither a constant nor an input.
 const NOTHING: u8 = 2;
+
+// Whether a register is public (02, 2026-06): loaded from a constant, and not overwritten since.
+const PUBLIC: u8 = 1;
+
+const SECRET: u8 = 0;
 
 // The bit of a constant or an input.
 fn start_bit(inputs: &[u8], reference: u32) -> u8 {
@@ -41,13 +46,21 @@ fn start_level(circuit: &[u32], reference: u32) -> u32 {
     0
 }
 
+fn start_mark(reference: u32) -> u8 {
+    if reference < CONSTANTS {
+        PUBLIC
+    } else {
+        SECRET
+    }
+}
+
 fn gate_bit(kind: u32, x: u8, y: u8) -> u8 {
     if kind == 2 { x & y } else { x ^ y }
 }
 
-fn gate_level(kind: u32, a: u32, b: u32) -> u32 {
+fn gate_level(kind: u32, a: u32, b: u32, public: bool) -> u32 {
     let level = if a < b { b } else { a };
-    if kind == 2 {
+    if (kind == 2) & !public {
         // Levels stay far below 4,096, as no circuit is so deep: the test only spares a proof.
         if level < 4096 {
             return level + 1;
@@ -59,20 +72,24 @@ fn gate_level(kind: u32, a: u32, b: u32) -> u32 {
 fn load(
     bits: &mut [u8; MAX_REGISTERS],
     levels: &mut [u32; MAX_REGISTERS],
+    marks: &mut [u8; MAX_REGISTERS],
     d: usize,
     bit: u8,
     level: u32,
+    mark: u8,
 ) -> bool
     requires { ⌜ d < maxRegisters ⌝ }
 {
     bits[d] = bit;
     levels[d] = level;
+    marks[d] = mark;
     bit != NOTHING
 }
 
 fn operate(
     bits: &mut [u8; MAX_REGISTERS],
     levels: &mut [u32; MAX_REGISTERS],
+    marks: &mut [u8; MAX_REGISTERS],
     kind: u32,
     d: usize,
     a: usize,
@@ -84,9 +101,11 @@ fn operate(
 {
     let x = bits[a];
     let y = bits[b];
-    let level = gate_level(kind, levels[a], levels[b]);
+    let public = (marks[a] == PUBLIC) | (marks[b] == PUBLIC);
+    let level = gate_level(kind, levels[a], levels[b], public);
     bits[d] = gate_bit(kind, x, y);
     levels[d] = level;
+    marks[d] = SECRET;
     (x != NOTHING) & (y != NOTHING)
 }
 
@@ -102,6 +121,7 @@ fn emit(bits: &[u8; MAX_REGISTERS], levels: &[u32; MAX_REGISTERS], a: usize) -> 
 fn perform(
     bits: &mut [u8; MAX_REGISTERS],
     levels: &mut [u32; MAX_REGISTERS],
+    marks: &mut [u8; MAX_REGISTERS],
     circuit: &[u32],
     inputs: &[u8],
     limit: u32,
@@ -129,9 +149,11 @@ fn perform(
             load(
                 bits,
                 levels,
+                marks,
                 first as usize,
                 start_bit(inputs, second),
                 start_level(circuit, second),
+                start_mark(second),
             )
         }
         1..=2 => {
@@ -144,6 +166,7 @@ fn perform(
             operate(
                 bits,
                 levels,
+                marks,
                 opcode,
                 first as usize,
                 second as usize,
@@ -161,6 +184,7 @@ pub fn print_run(circuit: &[u32], program: &[u32], limit: u32, inputs: &[u8]) {
     }
     let mut bits = [NOTHING; MAX_REGISTERS];
     let mut levels = [0u32; MAX_REGISTERS];
+    let mut marks = [SECRET; MAX_REGISTERS];
     let count = program.len() / 4;
     let mut i: usize = 0;
     while i < count {
@@ -168,6 +192,7 @@ pub fn print_run(circuit: &[u32], program: &[u32], limit: u32, inputs: &[u8]) {
         if !perform(
             &mut bits,
             &mut levels,
+            &mut marks,
             circuit,
             inputs,
             limit,

@@ -12,7 +12,7 @@ use Rattle.lines.specs.Calls.{over}
 use Rattle.circuit.specs.Circuit.{Gate, maxGates, firstGate, noGate}
 use Rattle.circuit.specs.Table.{inputs, gates, outputs, refs, gateLines, decode}
 use Rattle.circuit.specs.WellFormed.{WellFormed}
-use Rattle.circuit.specs.Depth.{plusAnd}
+use Rattle.circuit.specs.Depth.{plusCounted}
 use Rattle.circuit.specs.ReverseDepth.{markOutputs, raise, raiseOperands, raiseGates, reverseDepths, reverseDepth}
 use Rattle.circuit.proofs.TableLaws.{gate-next, gates-length, output-next, outputs-length, refs-decode}
 use Rattle.circuit.proofs.RefusalLaws.{left-below, right-below, output-below}
@@ -23,7 +23,7 @@ use Rattle.circuit.proofs.BufferLaws.{over-take, over-drop, over-parts}
 
 -- the two stores of a live gate
 pub raise-both : (n : ℕ) (g : Gate) (d d1 d2 : List ℕ) (x : ℕ) → getD d n 0 ≢ 0
-    → x ≡ plusAnd (g .kind) (getD d n 0) → d1 ≡ raise d (g .left) x → d2 ≡ raise d1 (g .right) x → d2 ≡ raiseOperands n g d
+    → x ≡ plusCounted g (getD d n 0) → d1 ≡ raise d (g .left) x → d2 ≡ raise d1 (g .right) x → d2 ≡ raiseOperands n g d
 raise-both n g d d1 d2 x ne e f1 f2 =
     f2 ∙ ap (λ y. raise y (g .right) x) f1 ∙ ap (λ y. raise (raise d (g .left) y) (g .right) y) e ∙ sym (raise-live n g d ne)
 

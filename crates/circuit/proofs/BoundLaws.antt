@@ -15,9 +15,8 @@ use Rattle.lists.proofs.First.{first-either}
 use Rattle.lists.proofs.Each.{each-length}
 use Rattle.circuit.specs.Circuit.{Gate, Start, Circuit, andKind, maxLevel, constants, firstGate, references}
 use Rattle.circuit.specs.Refusal.{startsAscend, startsRight}
-use Rattle.circuit.specs.Fold.{gateValue, foldGates}
 use Rattle.circuit.specs.Evaluation.{bitOp, bitOf, startBits, bits, evaluate}
-use Rattle.circuit.specs.Depth.{plusAnd, depthOp, setLevels, startLevels, depths, depth, largest, circuitDepth}
+use Rattle.circuit.specs.Depth.{plusCounted, gateDepth, isCounted, setLevels, startLevels, depths, depth, largest, circuitDepth}
 use Rattle.circuit.specs.ReverseDepth.{markOutputs, raise, raiseOperands, raiseGates, reverseDepths}
 use Rattle.circuit.specs.Critical.{isCritical, criticalCount}
 use Rattle.circuit.specs.Theorems.{EvaluationGivesBits}
@@ -32,7 +31,7 @@ module _ (c : Circuit) where
   pub depths-length : length (depths c) ≡ references c
   unfolding depths
   depths-length =
-      each-length (gateValue depthOp 0) (c .gates) (startLevels c) ∙ omega (arith, start-length c)
+      each-length gateDepth (c .gates) (startLevels c) ∙ omega (arith, start-length c)
 
   pub reverse-length : length (reverseDepths c) ≡ references c
   unfolding reverseDepths
@@ -49,11 +48,11 @@ store-bound d p v b all h k = at (ℕ-discrete k p) (decLt p (length d))
     at (yes e) (yes q) = rw (e, getD-set-same d p v 0 q) h
     at (yes e) (no q) = rw (set-out d p v (omega arith)) (all k)
 
-pub plus-bound : (kind x b : ℕ) → x ≤ b → plusAnd kind x ≤ b + 1
-plus-bound kind x b h = first-either (λ y. y ≤ b + 1) (eqb kind andKind) (omega arith) (omega arith)
+pub plus-bound : (g : Gate) (x b : ℕ) → x ≤ b → plusCounted g x ≤ b + 1
+plus-bound g x b h = first-either (λ y. y ≤ b + 1) (isCounted g) (omega arith) (omega arith)
 
-pub depth-bound : (kind x y b : ℕ) → x ≤ b → y ≤ b → depthOp kind x y ≤ b + 1
-depth-bound kind x y b h k = plus-bound kind (max x y) b (omega arith)
+depth-bound : (g : Gate) (d : List ℕ) (b : ℕ) → ((r : ℕ) → getD d r 0 ≤ b) → gateDepth g d ≤ b + 1
+depth-bound g d b h = plus-bound g (max (getD d (g .left) 0) (getD d (g .right) 0)) b (omega (arith, h (g .left), h (g .right)))
 
 pub mark-bound : (os d : List ℕ) → ((k : ℕ) → getD d k 0 ≤ 1) → (k : ℕ) → getD (markOutputs os d) k 0 ≤ 1
 unfolding markOutputs
@@ -62,7 +61,7 @@ mark-bound (o ∷ os) d all = mark-bound os (set d o 1) (store-bound d o 1 1 all
 
 pub operands-bound : (n : ℕ) (g : Gate) (d : List ℕ) (b : ℕ) → ((k : ℕ) → getD d k 0 ≤ b) → (k : ℕ) → getD (raiseOperands n g d) k 0 ≤ b + 1
 unfolding raiseOperands
-operands-bound n g d b all k = go (eqb (getD d n 0) 0) (plusAnd (g .kind) (getD d n 0)) (plus-bound (g .kind) (getD d n 0) b (all n))
+operands-bound n g d b all k = go (eqb (getD d n 0) 0) (plusCounted g (getD d n 0)) (plus-bound g (getD d n 0) b (all n))
   where
     raise-bound : (e : List ℕ) (v x : ℕ) → ((k : ℕ) → getD e k 0 ≤ b + 1) → x ≤ b + 1 → (k : ℕ) → getD (raise e v x) k 0 ≤ b + 1
     raise-bound e v x h q = store-bound e v (max (getD e v 0) x) (b + 1) h (omega (arith, h v))
@@ -103,21 +102,21 @@ mapped P f z pz h (o ∷ os) (suc i) = mapped P f z pz h os i
 
 -- ---- of a circuit
 
-fold-depth : (gs : List Gate) (vs : List ℕ) (b : ℕ) → ((r : ℕ) → getD vs r 0 ≤ b) → (r : ℕ) → getD (foldGates depthOp 0 gs vs) r 0 ≤ b + length gs
+each-depth : (gs : List Gate) (vs : List ℕ) (b : ℕ) → ((r : ℕ) → getD vs r 0 ≤ b) → (r : ℕ) → getD (appendEach gateDepth gs vs) r 0 ≤ b + length gs
 unfolding appendEach
-fold-depth [] vs b h r = omega (arith, h r)
-fold-depth (g ∷ gs) vs b h r =
+each-depth [] vs b h r = omega (arith, h r)
+each-depth (g ∷ gs) vs b h r =
     omega (
       arith,
-      fold-depth gs (vs ++ (gateValue depthOp 0 g vs ∷ [])) (b + 1)
-          (one-more (λ x. x ≤ b + 1) 0 (omega arith) vs (gateValue depthOp 0 g vs) (λ k. omega (arith, h k))
-          (depth-bound (g .kind) (getD vs (g .left) 0) (getD vs (g .right) 0) b (h (g .left)) (h (g .right)))) r,
+      each-depth gs (vs ++ (gateDepth g vs ∷ [])) (b + 1)
+          (one-more (λ x. x ≤ b + 1) 0 (omega arith) vs (gateDepth g vs) (λ k. omega (arith, h k))
+          (depth-bound g vs b h)) r,
     )
 
 module _ (c : Circuit) where
   pub depth-le : startsRight c ≡ true → (v : ℕ) → depth c v ≤ maxLevel + length (c .gates)
   unfolding depths
-  depth-le e = fold-depth (c .gates) (startLevels c) maxLevel (start-bound c e)
+  depth-le e = each-depth (c .gates) (startLevels c) maxLevel (start-bound c e)
 
   pub circuit-depth-le : startsRight c ≡ true → circuitDepth c ≤ maxLevel + length (c .gates)
   unfolding circuitDepth

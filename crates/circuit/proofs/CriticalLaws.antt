@@ -64,10 +64,10 @@ module _ (t : List ℕ) where
 
       pub counted-more : (u₀ u : List ℕ) → RaisedFrom t u₀ u i → i ≡ j + 1 → (g : Gate) → g ≡ getD (decode t .gates) j noGate
           → (deepest : ℕ) → deepest ≡ circuitDepth (decode t)
-          → (x : ℕ) → x ≡ first (isCounted (g .kind) && (ltb 0 (getD u v 0) && eqb (getD d v 0 + (getD u v 0 - 1)) deepest)) 1 0
+          → (x : ℕ) → x ≡ first (isCounted g && (ltb 0 (getD u v 0) && eqb (getD d v 0 + (getD u v 0 - 1)) deepest)) 1 0
           → CountedFrom t (count + x) j
       counted-more u₀ u f q g p deepest z x r =
-          let test : Gate → ℕ → ℕ → ℕ → Bool = λ a y b m. isCounted (a .kind) && (ltb 0 b && eqb (y + (b - 1)) m) in
+          let test : Gate → ℕ → ℕ → ℕ → Bool = λ a y b m. isCounted a && (ltb 0 b && eqb (y + (b - 1)) m) in
           let b = getD (decode t .gates) j noGate in
           let reverse-read = ap (λ m. getD u m 0) n ∙ raised-settled t u₀ u w i f j q h in
           let same : test g (getD d v 0) (getD u v 0) deepest ≡ isCritical (decode t) (firstGate (inputs t) + j) b =

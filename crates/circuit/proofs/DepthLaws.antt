@@ -10,8 +10,7 @@ use Rattle.lines.specs.Calls.{over}
 use Rattle.circuit.specs.Circuit.{Gate, maxDepth, constants, firstGate, noGate}
 use Rattle.circuit.specs.Table.{inputs, gates, outputs, refs, starts, lineAt, startOf, gateLines, decode}
 use Rattle.circuit.specs.WellFormed.{WellFormed}
-use Rattle.circuit.specs.Fold.{gateValue}
-use Rattle.circuit.specs.Depth.{depthOp, setLevels, startLevels, depths, depth, largest, circuitDepth}
+use Rattle.circuit.specs.Depth.{plusCounted, gateDepth, setLevels, startLevels, depths, depth, largest, circuitDepth}
 use Rattle.circuit.proofs.TableLaws.{starts-length, start-step, gate-next, gates-length, output-next, outputs-length, refs-decode}
 use Rattle.circuit.proofs.RefusalLaws.{left-below, right-below, output-below}
 use Rattle.circuit.proofs.BoundLaws.{depth-le, depths-length}
@@ -51,14 +50,14 @@ levels-over t d₀ d d′ w e f =
 
 -- the depths of the first i gates are there, behind those of the constants and inputs
 abbrev pub DepthsTo : (t d₀ d : List ℕ) (i : ℕ) → Type 0
-DepthsTo t d₀ d i = FilledOver (gateValue depthOp 0) (gateLines t) (startLevels (decode t)) (firstGate (inputs t)) d₀ d i
+DepthsTo t d₀ d i = FilledOver gateDepth (gateLines t) (startLevels (decode t)) (firstGate (inputs t)) d₀ d i
 
 module _ (t d₀ : List ℕ) where
   -- those of the first i gates are there from the beginning
   pub depths-resumed : (i : ℕ) → take (firstGate (inputs t) + i) d₀ ≡ take (firstGate (inputs t) + i) (depths (decode t)) → DepthsTo t d₀ d₀ i
   unfolding depths
   depths-resumed i e =
-      filled-over-from (gateValue depthOp 0) (gateLines t) (startLevels (decode t)) (firstGate (inputs t)) d₀ i (start-length (decode t)) e
+      filled-over-from gateDepth (gateLines t) (startLevels (decode t)) (firstGate (inputs t)) d₀ i (start-length (decode t)) e
 
   module _ (w : WellFormed t) (fits : refs t ≤ length d₀) (d : List ℕ) (i : ℕ) (f : DepthsTo t d₀ d i) where
     pub depth-limit : i ≤ gates t → (k : ℕ) → k < firstGate (inputs t) + i → getD d k 0 ≤ maxDepth
@@ -66,25 +65,25 @@ module _ (t d₀ : List ℕ) where
     depth-limit h k l =
         omega (
           arith,
-          filled-over-read (gateValue depthOp 0) (gateLines t) (startLevels (decode t)) (firstGate (inputs t)) d₀ d i f (omega arith) k 0 l,
+          filled-over-read gateDepth (gateLines t) (startLevels (decode t)) (firstGate (inputs t)) d₀ d i f (omega arith) k 0 l,
           depth-le (decode t) (w .starts-right) k,
           gates-length t,
           w .sized .gates-limit,
         )
 
     pub depths-more : i < gates t → (m : ℕ) → m ≡ firstGate (inputs t) → (v : ℕ) (g : Gate) → g ≡ getD (decode t .gates) i noGate
-        → v ≡ depthOp (g .kind) (getD d (g .left) 0) (getD d (g .right) 0) → DepthsTo t d₀ (set d (m + i) v) (i + 1)
+        → v ≡ gateDepth g d → DepthsTo t d₀ (set d (m + i) v) (i + 1)
     depths-more h m n v g q e =
         let x = getD (decode t .gates) i noGate in
         rw n
-        (filled-over-more (gateValue depthOp 0) (gateLines t) (startLevels (decode t)) (firstGate (inputs t)) d₀ d i f v x (gate-next t i h) (omega arith)
-        (e ∙ ap (λ y. depthOp (y .kind) (getD d (y .left) 0) (getD d (y .right) 0)) q
-        ∙ value-read depthOp 0 x (firstGate (inputs t) + i) d (left-below t w i h) (right-below t w i h)))
+        (filled-over-more gateDepth (gateLines t) (startLevels (decode t)) (firstGate (inputs t)) d₀ d i f v x (gate-next t i h) (omega arith)
+        (e ∙ ap (λ y. gateDepth y d) q
+        ∙ value-read (λ k a b. plusCounted x (max a b)) 0 x (firstGate (inputs t) + i) d (left-below t w i h) (right-below t w i h)))
 
     pub depths-all : i ≤ gates t → gates t ≤ i → d ≡ over (depths (decode t)) d₀
     unfolding depths
     depths-all h k =
-        filled-over-all (gateValue depthOp 0) (gateLines t) (startLevels (decode t)) (firstGate (inputs t)) d₀ d i f (omega arith) (omega (arith, gates-length t))
+        filled-over-all gateDepth (gateLines t) (startLevels (decode t)) (firstGate (inputs t)) d₀ d i f (omega arith) (omega (arith, gates-length t))
 
 -- the starting levels first, then the depths over them
 module _ (t d₀ d : List ℕ) (e : d ≡ over (startLevels (decode t)) d₀) where
@@ -96,7 +95,7 @@ module _ (t d₀ d : List ℕ) (e : d ≡ over (startLevels (decode t)) d₀) wh
   depths-none =
       rw add-zero
       (ap (take (firstGate (inputs t))) e ∙ over-take (startLevels (decode t)) d₀ (firstGate (inputs t)) long
-      ∙ sym (each-begin (gateValue depthOp 0) (gateLines t) (startLevels (decode t)) (firstGate (inputs t)) long))
+      ∙ sym (each-begin gateDepth (gateLines t) (startLevels (decode t)) (firstGate (inputs t)) long))
 
   pub depths-over : (d′ : List ℕ) → d′ ≡ over (depths (decode t)) d → d′ ≡ over (depths (decode t)) d₀
   depths-over d′ f =

@@ -1,15 +1,15 @@
--- Which references are gates, and what holds of a gate by its reference. Assumes nothing.
-use mathlib.Core.Path.{_≡_}
-use mathlib.Core.Bool.{true, false}
+-- Which references are gates, and what holds of a gate by its reference, and of its operands. Assumes nothing.
+use mathlib.Core.Path.{_≡_, refl}
+use mathlib.Core.Bool.{Bool, true, false, _||_}
 use Prim.Native.Nat.{ℕ, _+_, _-_, _≤_, _<_}
 use native.Mathlib.Omega.{arith}
-use lib.Dec.{leb, ltb}
-use borrow.Author.Tests.{le-leb, lt-leb, leb-true, lt-ltb, le-ltb, ltb-true}
+use lib.Dec.{eqb, leb, ltb}
+use borrow.Author.Tests.{eqb-true, le-leb, lt-leb, leb-true, lt-ltb, le-ltb, ltb-true}
 use Rattle.lists.proofs.Tests.{both, left-of, right-of}
 use Rattle.circuit.specs.Circuit.{Gate, Circuit, firstGate, references, gateAt}
 use Rattle.circuit.specs.Each.{EachGate}
 use Rattle.circuit.specs.Valuation.{Ordered}
-use Rattle.circuit.specs.Path.{isGate}
+use Rattle.circuit.specs.Path.{isGate, isOperand}
 use Rattle.circuit.proofs.EachLaws.{each-at}
 
 module _ (c : Circuit) (v : ℕ) where
@@ -38,3 +38,11 @@ module _ (c : Circuit) (v : ℕ) where
 
     pub operands-below-gate : Ordered (firstGate (c .inputs)) (c .gates) → (gateAt c v .left < v) × (gateAt c v .right < v)
     operands-below-gate = at-gate (λ m g. (g .left < m) × (g .right < m))
+
+-- what holds of both operands
+pub operand-cases : (P : ℕ → Type 0) (g : Gate) → P (g .left) → P (g .right) → (r : ℕ) → isOperand r g ≡ true → P r
+operand-cases P g pl pr r h = go (eqb r (g .left)) refl h
+  where
+    go : (x : Bool) → eqb r (g .left) ≡ x → (x || eqb r (g .right)) ≡ true → P r
+    go true e h = rw (eqb-true r (g .left) e) pl
+    go false e h = rw (eqb-true r (g .right) h) pr

@@ -1,28 +1,29 @@
--- Depth is source 003's: a gate's contribution plus the larger of its operands' depths. Assumes nothing.
-use mathlib.Core.Path.{_≡_, refl, sym, _∙_}
+-- Depth by source 003's equation: a gate's contribution plus the larger of its operands' depths. Assumes nothing.
+use mathlib.Core.Path.{_≡_, refl, sym, ap₂, _∙_}
 use mathlib.Core.Bool.{Bool, true, false, true≢false}
-use Prim.Native.Nat.{ℕ, zero, suc, _+_, _≤_, _<_, max}
+use Prim.Native.Nat.{ℕ, zero, suc, _+_, _-_, _≤_, _<_, max}
 use native.Mathlib.Decide.{decLt}
 use native.Mathlib.Nat.{not-suc-le-zero}
 use native.Mathlib.Omega.{arith}
 use lib.ListN.{getD, List·getD-eq-default}
+use lib.Seq.{getD-take}
 use Rattle.lists.specs.First.{first}
 use Rattle.lists.proofs.First.{first-either}
-use Rattle.circuit.specs.Circuit.{Circuit, firstGate, references, gateAt}
+use Rattle.lists.proofs.Each.{each-length, each-front, each-value}
+use Rattle.circuit.specs.Circuit.{Gate, Circuit, firstGate, references, noGate, gateAt}
 use Rattle.circuit.specs.Valuation.{Ordered}
-use Rattle.circuit.specs.Depth.{isCounted, plusAnd, depthOp, startLevels, depths, depth}
+use Rattle.circuit.specs.Depth.{isCounted, plusCounted, gateDepth, startLevels, depths, depth}
 use Rattle.circuit.specs.Path.{isGate}
 use Rattle.circuit.specs.MultiplicativeDepth.{contribution, depthWithin}
 use Rattle.circuit.specs.Theorems.{DepthOfGate, DepthIsMultiplicative}
-use Rattle.circuit.proofs.GateLaws.{is-gate, at-gate, operands-below-gate}
-use Rattle.circuit.proofs.FoldLaws.{fold-keeps-start, fold-solves}
+use Rattle.circuit.proofs.GateLaws.{is-gate, gate-from, gate-to, operands-below-gate}
 use Rattle.circuit.proofs.StartLaws.{start-length}
 
-pub contribution-le : (kind : ℕ) → contribution kind ≤ 1
-contribution-le kind = first-either (λ x. x ≤ 1) (isCounted kind) (omega arith) (omega arith)
+pub contribution-le : (g : Gate) → contribution g ≤ 1
+contribution-le g = first-either (λ x. x ≤ 1) (isCounted g) (omega arith) (omega arith)
 
-pub plus-contribution : (kind x : ℕ) → plusAnd kind x ≡ contribution kind + x
-plus-contribution kind x = go (isCounted kind)
+pub plus-contribution : (g : Gate) (x : ℕ) → plusCounted g x ≡ contribution g + x
+plus-contribution g x = go (isCounted g)
   where
     go : (b : Bool) → first b (x + 1) x ≡ first b 1 0 + x
     go true = omega arith
@@ -31,16 +32,20 @@ plus-contribution kind x = go (isCounted kind)
 pub depth-of-gate : DepthOfGate
 unfolding depths
 depth-of-gate c low v e =
-    at-gate c v e _ (fold-solves ℕ depthOp 0 (c .gates) (startLevels c) (firstGate (c .inputs)) (start-length c) low)
-    ∙ plus-contribution (gateAt c v .kind) (max (depth c (gateAt c v .left)) (depth c (gateAt c v .right)))
+    let n = firstGate (c .inputs) in
+    let g = gateAt c v in
+    let (l, r) = operands-below-gate c v e low in
+    each-value gateDepth (c .gates) (startLevels c) v (v - n) noGate 0 (omega (arith, start-length c, gate-from c v e)) (omega (arith, gate-from c v e, gate-to c v e))
+    ∙ ap₂ (λ a b. plusCounted g (max a b)) (getD-take v (depths c) (g .left) 0 l) (getD-take v (depths c) (g .right) 0 r)
+    ∙ plus-contribution g (max (depth c (g .left)) (depth c (g .right)))
 
 -- what is no gate has its starting level, and beyond the circuit both are 0
-depth-of-start : (c : Circuit) (v : ℕ) → isGate c v ≡ false → getD (startLevels c) v 0 ≡ depth c v
+pub depth-of-start : (c : Circuit) (v : ℕ) → isGate c v ≡ false → getD (startLevels c) v 0 ≡ depth c v
 unfolding depths
 depth-of-start c v e =
-    let (long, front) = fold-keeps-start ℕ depthOp 0 (c .gates) (startLevels c) in
+    let long = each-length gateDepth (c .gates) (startLevels c) in
     elim (decLt v (firstGate (c .inputs))) [
-      | yes l ↦ sym (front v (omega (arith, start-length c)))
+      | yes l ↦ sym (each-front gateDepth (c .gates) (startLevels c) v 0 (omega (arith, start-length c)))
       | no l ↦
           elim (decLt v (references c)) [
             | yes h ↦ absurd (true≢false (sym (is-gate c v (omega arith) h) ∙ e))

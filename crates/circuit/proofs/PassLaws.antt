@@ -15,7 +15,7 @@ use Rattle.lists.specs.First.{first}
 use Rattle.lists.proofs.Maps.{take-set}
 use Rattle.circuit.specs.Circuit.{Gate}
 use Rattle.circuit.specs.Valuation.{Ordered}
-use Rattle.circuit.specs.Depth.{plusAnd}
+use Rattle.circuit.specs.Depth.{plusCounted}
 use Rattle.circuit.specs.ReverseDepth.{markOutputs, raise, raiseOperands, raiseGates}
 
 -- ---- loops
@@ -53,7 +53,7 @@ unfolding raiseOperands
 raise-dead n g d e = rw (eq-eqb (getD d n 0) 0 e)
 
 pub raise-live : (n : ℕ) (g : Gate) (d : List ℕ) → getD d n 0 ≢ 0
-    → raiseOperands n g d ≡ raise (raise d (g .left) (plusAnd (g .kind) (getD d n 0))) (g .right) (plusAnd (g .kind) (getD d n 0))
+    → raiseOperands n g d ≡ raise (raise d (g .left) (plusCounted g (getD d n 0))) (g .right) (plusCounted g (getD d n 0))
 unfolding raiseOperands
 raise-live n g d e = rw (ne-eqb (getD d n 0) 0 e)
 
@@ -71,7 +71,7 @@ raise-at-take k d v x =
 
 pub operands-take : (k n : ℕ) (g : Gate) (d : List ℕ) → n < k → take k (raiseOperands n g d) ≡ raiseOperands n g (take k d)
 unfolding raiseOperands
-operands-take k n g d h = rw (getD-take k d n 0 h) (go (eqb (getD d n 0) 0) (plusAnd (g .kind) (getD d n 0)))
+operands-take k n g d h = rw (getD-take k d n 0 h) (go (eqb (getD d n 0) 0) (plusCounted g (getD d n 0)))
   where
     go : (b : Bool) (x : ℕ) → take k (first b d (raise (raise d (g .left) x) (g .right) x)) ≡ first b (take k d) (raise (raise (take k d) (g .left) x) (g .right) x)
     go true x = refl
@@ -79,7 +79,7 @@ operands-take k n g d h = rw (getD-take k d n 0 h) (go (eqb (getD d n 0) 0) (plu
 
 pub operands-drop : (k n : ℕ) (g : Gate) (d : List ℕ) → g .left < k → g .right < k → drop k (raiseOperands n g d) ≡ drop k d
 unfolding raiseOperands
-operands-drop k n g d l r = go (eqb (getD d n 0) 0) (plusAnd (g .kind) (getD d n 0))
+operands-drop k n g d l r = go (eqb (getD d n 0) 0) (plusCounted g (getD d n 0))
   where
     go : (b : Bool) (x : ℕ) → drop k (first b d (raise (raise d (g .left) x) (g .right) x)) ≡ drop k d
     go true x = refl
@@ -105,7 +105,7 @@ mark-length (o ∷ os) d = mark-length os (set d o 1) ∙ length-set d o 1
 
 pub operands-length : (n : ℕ) (g : Gate) (d : List ℕ) → length (raiseOperands n g d) ≡ length d
 unfolding raiseOperands
-operands-length n g d = go (eqb (getD d n 0) 0) (plusAnd (g .kind) (getD d n 0))
+operands-length n g d = go (eqb (getD d n 0) 0) (plusCounted g (getD d n 0))
   where
     go : (b : Bool) (x : ℕ) → length (first b d (raise (raise d (g .left) x) (g .right) x)) ≡ length d
     go true x = refl

@@ -10,13 +10,14 @@ use native.Mathlib.Numerals.{add-one}
 use native.Mathlib.Omega.{arith}
 use lib.Dec.{eqb}
 use lib.ListN.{length, drop, getD, drop-of-length-le}
-use borrow.Author.Tests.{eq-eqb, ne-eqb}
+use borrow.Author.Tests.{eq-eqb, ne-eqb, le-ltb}
 use Rattle.lists.specs.First.{first}
 use Rattle.lists.proofs.Each.{each-front}
-use Rattle.circuit.specs.Circuit.{Gate}
+use Rattle.circuit.specs.Circuit.{Gate, constants}
 use Rattle.circuit.specs.Each.{countGates, EachGate}
 use Rattle.circuit.specs.Fold.{gateValue, foldGates}
 use Rattle.circuit.specs.Valuation.{Ordered}
+use Rattle.circuit.specs.Depth.{isConstant, isCounted}
 use Rattle.circuit.specs.Trim.{renameGate, rank, keepGates}
 use Rattle.circuit.proofs.EachLaws.{each-zip}
 use Rattle.circuit.proofs.FoldLaws.{fold-solves, simulation}
@@ -90,6 +91,22 @@ module _ (kept : ℕ → Bool) where
   pub rank-id : (n : ℕ) → ((r : ℕ) → r < n → kept r ≡ true) → rank kept n ≡ n
   rank-id zero f = rank-none
   rank-id (suc n) f = rank-suc n (f n (omega arith)) ∙ ap suc (rank-id n (λ r h. f r (omega arith)))
+
+  -- so if no constant goes, constants stay, and nothing else becomes one
+  rank-constant : ((r : ℕ) → r < constants → kept r ≡ true) → (v : ℕ) → isConstant (rank kept v) ≡ isConstant v
+  rank-constant low v =
+      elim (decLt v constants) [
+        | yes h ↦ ap isConstant (rank-id v (λ r l. low r (omega arith)))
+        | no h ↦
+            rw (
+              le-ltb v constants (omega arith),
+              le-ltb (rank kept v) constants (omega (arith, rank-id constants low, rank-mono constants v (omega arith))),
+            )
+      ]
+
+  -- and a gate counts if it did
+  pub rank-counted : ((r : ℕ) → r < constants → kept r ≡ true) → (g : Gate) → isCounted (renameGate (rank kept) g) ≡ isCounted g
+  rank-counted low g = rw (rank-constant low (g .left), rank-constant low (g .right))
 
   pub rank-le : (n : ℕ) → rank kept n ≤ n
   rank-le zero = omega (arith, rank-none)

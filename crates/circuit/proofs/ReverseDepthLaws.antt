@@ -13,10 +13,10 @@ use lib.Seq.{getD-set-same, getD-set-other}
 use borrow.Author.Tests.{eq-eqb, ne-eqb, lt-ltb, le-ltb, ltb-true}
 use Rattle.lists.specs.First.{first}
 use Rattle.lists.proofs.First.{first-either}
-use Rattle.circuit.specs.Circuit.{Gate, Circuit, firstGate, references}
+use Rattle.circuit.specs.Circuit.{Gate, Circuit, constants, firstGate, references}
 use Rattle.circuit.specs.Each.{EachGate}
 use Rattle.circuit.specs.Valuation.{Ordered}
-use Rattle.circuit.specs.Depth.{plusAnd}
+use Rattle.circuit.specs.Depth.{plusCounted}
 use Rattle.circuit.specs.Path.{isAmong, isOperand}
 use Rattle.circuit.specs.MultiplicativeDepth.{contribution}
 use Rattle.circuit.specs.ReverseDepth.{markOutputs, raise, raiseOperands, raiseGates, reverseDepths, reverseDepth, isLive}
@@ -24,18 +24,18 @@ use Rattle.circuit.specs.Trim.{renameGate, rank, keepGates, isKept}
 use Rattle.circuit.proofs.EachLaws.{each-zip}
 use Rattle.circuit.proofs.MultiplicativeDepthLaws.{plus-contribution}
 use Rattle.circuit.proofs.ValidLaws.{Valid, among-head, among-tail}
-use Rattle.circuit.proofs.RankLaws.{rank-suc, rank-same, rank-eqb, Closed}
+use Rattle.circuit.proofs.RankLaws.{rank-suc, rank-same, rank-eqb, rank-counted, Closed}
 use Rattle.circuit.proofs.PassLaws.{raise-dead, raise-live, raise-length, mark-length, zeros-at}
 
 -- ---- as functions of the reference
 
--- what a gate with reverse depth x hands to its operands
-unfoldable pub handed : ℕ → ℕ → ℕ
-handed kind zero = zero
-handed kind (suc x) = contribution kind + suc x
+-- what a gate with this contribution and reverse depth x hands to its operands
+unfoldable pub handed : (own x : ℕ) → ℕ
+handed own zero = zero
+handed own (suc x) = own + suc x
 
 unfoldable pub carried : Gate → ℕ → ℕ → ℕ
-carried g r x = first (isOperand r g) (handed (g .kind) x) 0
+carried g r x = first (isOperand r g) (handed (contribution g) x) 0
 
 -- the pass over gates from reference n on, begun with w
 unfoldable pub raised : ℕ → List Gate → (ℕ → ℕ) → ℕ → ℕ
@@ -74,8 +74,8 @@ operands-at n g d s hl hr = go (getD d n 0) refl
     go : (x : ℕ) → getD d n 0 ≡ x → getD (raiseOperands n g d) s 0 ≡ max (getD d s 0) (carried g s x)
     go zero e = rw (raise-dead n g d e, carried-zero g s) (omega arith)
     go (suc x) e =
-        let p : plusAnd (g .kind) (getD d n 0) ≡ contribution (g .kind) + suc x = rw e (plus-contribution (g .kind) (suc x)) in
-        rw (raise-live n g d (λ z. suc-ne-zero x (sym e ∙ z)), p) (raise-two d g (contribution (g .kind) + suc x) s hl hr)
+        let p : plusCounted g (getD d n 0) ≡ contribution g + suc x = rw e (plus-contribution g (suc x)) in
+        rw (raise-live n g d (λ z. suc-ne-zero x (sym e ∙ z)), p) (raise-two d g (contribution g + suc x) s hl hr)
 
 raises : (n : ℕ) (gs : List Gate) (d : List ℕ) → Ordered n gs → n + length gs ≤ length d
     → (s : ℕ) → getD (raiseGates n gs d) s 0 ≡ raised n gs (λ r. getD d r 0) s
@@ -118,20 +118,20 @@ reverse-at c ok v =
 
 -- ---- what the pass says
 
-handed-ge : (kind x : ℕ) → x ≤ handed kind x
+handed-ge : (own x : ℕ) → x ≤ handed own x
 unfolding handed
-handed-ge kind zero = omega arith
-handed-ge kind (suc x) = omega arith
+handed-ge own zero = omega arith
+handed-ge own (suc x) = omega arith
 
-pub handed-lt : (kind x m : ℕ) → m < x → contribution kind + m < handed kind x
+pub handed-lt : (own x m : ℕ) → m < x → own + m < handed own x
 unfolding handed
-handed-lt kind zero m h = omega arith
-handed-lt kind (suc x) m h = omega arith
+handed-lt own zero m h = omega arith
+handed-lt own (suc x) m h = omega arith
 
-handed-is : (kind x y : ℕ) → handed kind x ≡ suc y → (z : ℕ) × (x ≡ suc z) × (contribution kind + z ≡ y)
+handed-is : (own x y : ℕ) → handed own x ≡ suc y → (z : ℕ) × (x ≡ suc z) × (own + z ≡ y)
 unfolding handed
-handed-is kind zero y e = absurd (suc-ne-zero y (sym e))
-handed-is kind (suc x) y e = (x, refl, omega arith)
+handed-is own zero y e = absurd (suc-ne-zero y (sym e))
+handed-is own (suc x) y e = (x, refl, omega arith)
 
 raised-ge : (n : ℕ) (gs : List Gate) (w : ℕ → ℕ) (r : ℕ) → w r ≤ raised n gs w r
 unfolding raised
@@ -149,14 +149,14 @@ unused g m r x l h =
 -- u is what the pass over these gates says, and no more of them: what a gate hands down has arrived
 arrived : (u : ℕ → ℕ) (n : ℕ) (gs : List Gate) (w : ℕ → ℕ) → Ordered n gs
     → ((r : ℕ) → raised n gs w r ≤ u r) → ((r : ℕ) → n ≤ r → u r ≤ raised n gs w r)
-    → EachGate (λ m g. (r : ℕ) → isOperand r g ≡ true → handed (g .kind) (u m) ≤ u r) n gs
+    → EachGate (λ m g. (r : ℕ) → isOperand r g ≡ true → handed (contribution g) (u m) ≤ u r) n gs
 unfolding raised carried
 arrived u n [] w low lo hi = tt
 arrived u n (g ∷ gs) w low lo hi = (
   λ r e.
       let x = raised (suc n) gs w n in
       let p : u n ≡ x = omega (arith, hi n (omega arith), lo n, unused g n n x (low .0) (omega arith)) in
-      let q : carried g r x ≡ handed (g .kind) x = rw e in
+      let q : carried g r x ≡ handed (contribution g) x = rw e in
       rw p (omega (arith, lo r)),
   arrived u (suc n) gs w (low .1) (λ r. omega (arith, lo r))
       (λ r h. omega (arith, hi r (omega arith), unused g n r (raised (suc n) gs w n) (low .0) (omega arith))),
@@ -170,7 +170,7 @@ operand-right g = rw (eq-eqb (g .right) (g .right) refl, or-true)
 
 -- what the pass says is so: P holds where w says so, and goes from a gate down to its operands
 pub reached : (P : ℕ → ℕ → Type 0) (n : ℕ) (gs : List Gate) (w : ℕ → ℕ)
-    → EachGate (λ m g. (v x : ℕ) → isOperand v g ≡ true → P m x → P v (contribution (g .kind) + x)) n gs
+    → EachGate (λ m g. (v x : ℕ) → isOperand v g ≡ true → P m x → P v (contribution g + x)) n gs
     → ((r x : ℕ) → w r ≡ suc x → P r x) → (r x : ℕ) → raised n gs w r ≡ suc x → P r x
 unfolding raised carried
 reached P n [] w a h r x e = h r x e
@@ -181,32 +181,36 @@ reached P n (g ∷ gs) w a h r x e =
       | no l ↦ ih r x (omega arith)
     ]
   where
-    go : (b : Bool) → isOperand r g ≡ b → first b (handed (g .kind) (raised (suc n) gs w n)) 0 ≡ suc x
+    go : (b : Bool) → isOperand r g ≡ b → first b (handed (contribution g) (raised (suc n) gs w n)) 0 ≡ suc x
         → ((x : ℕ) → raised (suc n) gs w n ≡ suc x → P n x) → P r x
     go true e q ih =
-        let (y, f, z) = handed-is (g .kind) (raised (suc n) gs w n) x q in
+        let (y, f, z) = handed-is (contribution g) (raised (suc n) gs w n) x q in
         rw (← z) (a .0 r y e (ih y f))
     go false e q ih = absurd (suc-ne-zero x (sym q))
 
 -- ---- keeping gates
 
-carried-rename : (kept : ℕ → Bool) (g : Gate) (r x : ℕ) → kept r ≡ true → (kept (g .left) ≡ true) × (kept (g .right) ≡ true)
+carried-rename : (kept : ℕ → Bool) → ((r : ℕ) → r < constants → kept r ≡ true)
+    → (g : Gate) (r x : ℕ) → kept r ≡ true → (kept (g .left) ≡ true) × (kept (g .right) ≡ true)
     → carried (renameGate (rank kept) g) (rank kept r) x ≡ carried g r x
 unfolding carried
-carried-rename kept g r x e c = rw (rank-eqb kept r (g .left) e (c .0), rank-eqb kept r (g .right) e (c .1))
+carried-rename kept low g r x e c =
+    ap (λ b. first b (handed (contribution (renameGate (rank kept) g)) x) 0) (ap₂ _||_ (rank-eqb kept r (g .left) e (c .0)) (rank-eqb kept r (g .right) e (c .1)))
+    ∙ ap (λ b. first (isOperand r g) (handed (first b 1 0) x) 0) (rank-counted kept low g)
 
 -- if no gate that goes has anything to hand down, those that stay have what they had
-pub keep-raised : (kept : ℕ → Bool) (w w′ : ℕ → ℕ) (n : ℕ) (gs : List Gate) → Closed kept n gs → ((r : ℕ) → kept r ≡ false → raised n gs w r ≡ 0)
+pub keep-raised : (kept : ℕ → Bool) → ((r : ℕ) → r < constants → kept r ≡ true)
+    → (w w′ : ℕ → ℕ) (n : ℕ) (gs : List Gate) → Closed kept n gs → ((r : ℕ) → kept r ≡ false → raised n gs w r ≡ 0)
     → ((r : ℕ) → kept r ≡ true → w′ (rank kept r) ≡ w r)
     → (r : ℕ) → kept r ≡ true → raised (rank kept n) (keepGates kept n gs) w′ (rank kept r) ≡ raised n gs w r
 unfolding raised keepGates
-keep-raised kept w w′ n [] cl dead e r h = e r h
-keep-raised kept w w′ n (g ∷ gs) cl dead e r h = go (kept n) refl (keep-raised kept w w′ (suc n) gs (cl .1) (λ r f. omega (arith, dead r f)) e)
+keep-raised kept low w w′ n [] cl dead e r h = e r h
+keep-raised kept low w w′ n (g ∷ gs) cl dead e r h = go (kept n) refl (keep-raised kept low w w′ (suc n) gs (cl .1) (λ r f. omega (arith, dead r f)) e)
   where
     go : (b : Bool) → kept n ≡ b
         → ((r : ℕ) → kept r ≡ true → raised (rank kept (suc n)) (keepGates kept (suc n) gs) w′ (rank kept r) ≡ raised (suc n) gs w r)
         → raised (rank kept n) (keepGates kept n (g ∷ gs)) w′ (rank kept r) ≡ raised n (g ∷ gs) w r
-    go true f ih = rw (f, ← (rank-suc kept n f), ih r h, ih n f, carried-rename kept g r _ h (cl .0 f))
+    go true f ih = rw (f, ← (rank-suc kept n f), ih r h, ih n f, carried-rename kept low g r _ h (cl .0 f))
     go false f ih =
         let z : raised (suc n) gs w n ≡ 0 = omega (arith, dead n f) in
         rw (f, ← (rank-same kept n f), ih r h, z, carried-zero g r) (omega arith)
@@ -232,7 +236,7 @@ module _ (c : Circuit) where
 
   module _ (ok : Valid c) where
     -- each gate hands down to its operands
-    pub handed-down : EachGate (λ m g. (r : ℕ) → isOperand r g ≡ true → handed (g .kind) (reverseDepth c m) ≤ reverseDepth c r) (firstGate (c .inputs)) (c .gates)
+    pub handed-down : EachGate (λ m g. (r : ℕ) → isOperand r g ≡ true → handed (contribution g) (reverseDepth c m) ≤ reverseDepth c r) (firstGate (c .inputs)) (c .gates)
     handed-down =
         arrived (reverseDepth c) (firstGate (c .inputs)) (c .gates) (marked (c .outputs)) (ok .ordered)
         (λ r. omega (arith, reverse-at c ok r)) (λ r h. omega (arith, reverse-at c ok r))
@@ -247,7 +251,7 @@ module _ (c : Circuit) where
     kept-closed =
         each-zip (firstGate (c .inputs)) (c .gates) handed-down handed-down
         (λ m g h f x e.
-        let p : 0 < handed (g .kind) (reverseDepth c m) = omega (arith, ltb-true 0 (reverseDepth c m) (kept-gate m h e), handed-ge (g .kind) (reverseDepth c m)) in (
+        let p : 0 < handed (contribution g) (reverseDepth c m) = omega (arith, ltb-true 0 (reverseDepth c m) (kept-gate m h e), handed-ge (contribution g) (reverseDepth c m)) in (
           kept-live (g .left) (lt-ltb 0 (reverseDepth c (g .left)) (omega (arith, f (g .left) (operand-left g)))),
           kept-live (g .right) (lt-ltb 0 (reverseDepth c (g .right)) (omega (arith, f (g .right) (operand-right g)))),
         ))

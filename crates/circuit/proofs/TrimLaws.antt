@@ -2,28 +2,30 @@
 use mathlib.Core.Path.{_≡_, refl, sym, ap, ap₂, _∙_}
 use mathlib.Core.Bool.{Bool, true, false, true≢false, and-false}
 use mathlib.Core.List.{List, [], _∷_, map}
-use Prim.Native.Nat.{ℕ, _+_, _-_, _≤_, _<_}
+use Prim.Native.Nat.{ℕ, zero, suc, _+_, _-_, _≤_, _<_, max}
+use native.Mathlib.Nat.{not-suc-le-zero}
 use native.Mathlib.Decide.{decLt}
 use native.Mathlib.Omega.{arith}
 use lib.Dec.{eqb, ltb}
 use lib.ListN.{length, getD, length-map, List·getD-eq-default}
 use borrow.Author.Tests.{eqb-true, le-leb, lt-leb, lt-ltb}
 use Rattle.lists.specs.First.{first}
-use Rattle.circuit.specs.Circuit.{Gate, Circuit, noGate, andKind, firstGate, references, gateAt}
+use Rattle.circuit.specs.Circuit.{Gate, Circuit, noGate, constants, firstGate, references, gateAt}
 use Rattle.circuit.specs.Each.{countGates, EachGate}
 use Rattle.circuit.specs.Refusal.{hasGateKind}
 use Rattle.circuit.specs.Fold.{foldGates, atOutputs}
 use Rattle.circuit.specs.Evaluation.{bitOp, bitOf, startBits, bits, evaluate}
-use Rattle.circuit.specs.Depth.{depthOp, startLevels, depths, depth, largest, circuitDepth}
+use Rattle.circuit.specs.Depth.{isCounted, startLevels, depth, largest, circuitDepth}
 use Rattle.circuit.specs.Path.{isAmong, isGate}
+use Rattle.circuit.specs.MultiplicativeDepth.{contribution}
 use Rattle.circuit.specs.ReverseDepth.{reverseDepths, reverseDepth, isLive}
 use Rattle.circuit.specs.Critical.{isCritical, criticalCount}
 use Rattle.circuit.specs.Trim.{renameGate, rank, keepGates, isKept, trim}
 use Rattle.circuit.proofs.EachLaws.{each-at, each-of, each-map}
-use Rattle.circuit.proofs.GateLaws.{gate-from, gate-to, at-gate}
-use Rattle.circuit.proofs.StartLaws.{start-length}
+use Rattle.circuit.proofs.GateLaws.{is-gate, gate-from, gate-to, at-gate, operands-below-gate}
+use Rattle.circuit.proofs.MultiplicativeDepthLaws.{depth-of-gate, depth-of-start}
 use Rattle.circuit.proofs.ValidLaws.{Valid, Limited, among-head, among-tail}
-use Rattle.circuit.proofs.RankLaws.{rank-mono, rank-id, rank-lt, rank-eqb, keep-count, keep-length, each-keep, count-keep, keep-ordered, keep-value, keep-all}
+use Rattle.circuit.proofs.RankLaws.{rank-mono, rank-id, rank-lt, rank-eqb, rank-counted, keep-count, keep-length, each-keep, count-keep, keep-ordered, keep-value, keep-all}
 use Rattle.circuit.proofs.KeptLaws.{keep-at}
 use Rattle.circuit.proofs.BoundLaws.{reverse-length}
 use Rattle.circuit.proofs.ReverseDepthLaws.{raised, marked, reverse-at, keep-raised, kept-low, kept-live, kept-gate, gone-zero, live-output, kept-closed}
@@ -161,13 +163,43 @@ module _ (c : Circuit) (ok : Valid c) where
   unfolding evaluate bits
   trim-evaluate bytes e = trim-outputs bitOp 0 (startBits bytes) (omega (arith, length-map bytes bitOf))
 
+  constants-kept : (r : ℕ) → r < constants → isKept c r ≡ true
+  constants-kept r h = kept-low c r (omega arith)
+
+  trim-start : startLevels (trim c) ≡ startLevels c
+  unfolding startLevels trim
+  trim-start = refl
+
+  -- from the operands up: a gate counts under its new number if it did under the old one
+  depth-within : (steps v : ℕ) → v < steps → isKept c v ≡ true → depth (trim c) (rank (isKept c) v) ≡ depth c v
+  depth-within zero v h k = absurd (not-suc-le-zero h)
+  depth-within (suc steps) v h k = go (isGate c v) refl (depth-within steps)
+    where
+      go : (b : Bool) → isGate c v ≡ b → ((w : ℕ) → w < steps → isKept c w ≡ true → depth (trim c) (rank (isKept c) w) ≡ depth c w)
+          → depth (trim c) (rank (isKept c) v) ≡ depth c v
+      go true e ih =
+          let g = gateAt c v in
+          let (l, r) = operands-below-gate c v e (ok .ordered) in
+          let (kl, kr) = operands-kept v e k in
+          depth-of-gate (trim c) (trim-valid .ordered) (rank (isKept c) v) (trim-is-gate v k ∙ e)
+          ∙ ap (λ x. contribution x + max (depth (trim c) (x .left)) (depth (trim c) (x .right))) (trim-gate v e k)
+          ∙ ap₂ (λ b m. first b 1 0 + m) (rank-counted (isKept c) constants-kept g)
+          (ap₂ max (ih (g .left) (omega arith) kl) (ih (g .right) (omega arith) kr))
+          ∙ sym (depth-of-gate c (ok .ordered) v e)
+      go false e ih =
+          elim (decLt v (firstGate (c .inputs))) [
+            | yes l ↦
+                sym (depth-of-start (trim c) (rank (isKept c) v) (trim-is-gate v k ∙ e))
+                ∙ ap₂ (λ d r. getD d r 0) trim-start (rank-id (isKept c) v (λ r q. kept-low c r (omega arith))) ∙ depth-of-start c v e
+            | no l ↦ absurd (true≢false (sym (is-gate c v (omega arith) (kept-below v k)) ∙ e))
+          ]
+
   pub trim-depth : (v : ℕ) → v < references c → isKept c v ≡ true → depth (trim c) (rank (isKept c) v) ≡ depth c v
-  unfolding depths startLevels trim
-  trim-depth = trim-value depthOp 0 (startLevels c) (start-length c)
+  trim-depth = depth-within (references c)
 
   pub trim-circuit-depth : circuitDepth (trim c) ≡ circuitDepth c
-  unfolding circuitDepth depths startLevels trim
-  trim-circuit-depth = ap largest (trim-outputs depthOp 0 (startLevels c) (start-length c))
+  unfolding circuitDepth trim
+  trim-circuit-depth = ap largest (map-among (depth c) (depth (trim c)) (rank (isKept c)) (c .outputs) (λ o t. trim-depth o (ok .outputs-below o t) (kept-output o t)))
 
   pub trim-reverse-depth : (v : ℕ) → isKept c v ≡ true → reverseDepth (trim c) (rank (isKept c) v) ≡ reverseDepth c v
   unfolding trim marked
@@ -176,16 +208,17 @@ module _ (c : Circuit) (ok : Valid c) where
       let outputs = map (rank (isKept c)) (c .outputs) in
       reverse-at (trim c) trim-valid (rank (isKept c) v)
       ∙ ap (λ k. raised k (keepGates (isKept c) n (c .gates)) (marked outputs) (rank (isKept c) v)) (sym rank-first)
-      ∙ keep-raised (isKept c) (marked (c .outputs)) (marked outputs) n (c .gates) (kept-closed c ok)
+      ∙ keep-raised (isKept c) constants-kept (marked (c .outputs)) (marked outputs) n (c .gates) (kept-closed c ok)
       (λ r f. sym (reverse-at c ok r) ∙ gone-zero c r f)
       (λ r e. ap (λ b. first b 1 0) (among-rank (isKept c) r e (c .outputs) kept-output)) v h
       ∙ sym (reverse-at c ok v)
 
   critical-kept : (m : ℕ) (g : Gate) → m < references c → isKept c m ≡ true → isCritical (trim c) (rank (isKept c) m) (renameGate (rank (isKept c)) g) ≡ isCritical c m g
-  critical-kept m g h e = rw (trim-reverse-depth m e, trim-depth m h e, trim-circuit-depth)
+  critical-kept m g h e =
+      rw (rank-counted (isKept c) constants-kept g, trim-reverse-depth m e, trim-depth m h e, trim-circuit-depth)
 
   critical-gone : (m : ℕ) (g : Gate) → isKept c m ≡ false → isCritical c m g ≡ false
-  critical-gone m g e = rw (gone-zero c m e) (and-false (eqb (g .kind) andKind))
+  critical-gone m g e = rw (gone-zero c m e) (and-false (isCounted g))
 
   pub trim-critical-count : criticalCount (trim c) ≡ criticalCount c
   unfolding criticalCount trim

@@ -1,5 +1,5 @@
--- 01, Depth and critical count, 4 and 5: the critical count, N, and the pair.
--- That live and above are 01's: `LiveIsReached`, `AboveIsLargest` in Theorems.antt.
+-- 01, Depth and critical count, 4 and 5, and 02, 2026-06: the critical count, N, and the pair.
+-- That live, above and critical are 01's, by paths: `LiveIsReached`, `AboveIsLargest`, `CriticalIsDeepest` in Theorems.antt.
 use Prim.Native.Nat.{ℕ, _+_}
 use mathlib.Core.Bool.{Bool, _&&_}
 use lib.Dec.{eqb}
@@ -9,9 +9,9 @@ use Rattle.circuit.specs.Each.{countGates}
 use Rattle.circuit.specs.Depth.{isCounted, depth, circuitDepth}
 use Rattle.circuit.specs.ReverseDepth.{isLive, above}
 
--- a live AND gate on a deepest path: its depth and above make D
+-- a live gate that counts, on a deepest path: its depth and above make D
 abbrev pub isCritical : Circuit → ℕ → Gate → Bool
-isCritical c v g = isCounted (g .kind) && (isLive c v && eqb (depth c v + above c v) (circuitDepth c))
+isCritical c v g = isCounted g && (isLive c v && eqb (depth c v + above c v) (circuitDepth c))
 
 -- N: how many of these there are, each counted once
 unfoldable pub criticalCount : Circuit → ℕ

@@ -1,24 +1,30 @@
--- 01, Depth and critical count, 1 and 2, and 02, 2026-01: the depth of a reference, and D.
+-- 01, Depth and critical count, 1 and 2, and 02, 2026-01 and 2026-06: the depth of a reference, and D.
 use Prim.Native.Nat.{ℕ, _+_, max}
-use mathlib.Core.Bool.{Bool}
+use mathlib.Core.Bool.{Bool, not, _&&_, _||_}
 use mathlib.Core.List.{List, [], _∷_}
-use lib.Dec.{eqb}
+use lib.Dec.{eqb, ltb}
 use lib.ListN.{getD, set, replicate}
 use Rattle.lists.specs.First.{first}
-use Rattle.circuit.specs.Circuit.{Start, Circuit, andKind, firstGate}
-use Rattle.circuit.specs.Fold.{foldGates, atOutputs}
+use Rattle.lists.specs.Each.{appendEach}
+use Rattle.circuit.specs.Circuit.{Gate, Start, Circuit, andKind, constants, firstGate}
+use Rattle.circuit.specs.Fold.{atOutputs}
 
--- whether a gate of this kind counts, for depth, above and N: an AND does, an XOR does not (other kinds are refused)
-abbrev pub isCounted : (kind : ℕ) → Bool
-isCounted kind = eqb kind andKind
+-- references 0 and 1
+abbrev pub isConstant : (v : ℕ) → Bool
+isConstant v = ltb v constants
+
+-- whether a gate counts, for depth, above and N: an AND does, but not one with a constant on either side (02, 2026-06), and an XOR does not
+-- (other kinds are refused). Only the operands' references say so: a gate whose value is the same on every input is no constant.
+abbrev pub isCounted : Gate → Bool
+isCounted g = eqb (g .kind) andKind && not (isConstant (g .left) || isConstant (g .right))
 
 -- 1 more for a gate that counts
-abbrev pub plusAnd : (kind x : ℕ) → ℕ
-plusAnd kind x = first (isCounted kind) (x + 1) x
+abbrev pub plusCounted : Gate → (x : ℕ) → ℕ
+plusCounted g x = first (isCounted g) (x + 1) x
 
--- a gate's depth: the larger of its operands', and 1 more for an AND, constant operands or not
-abbrev pub depthOp : (kind a b : ℕ) → ℕ
-depthOp kind a b = plusAnd kind (max a b)
+-- a gate's depth, where d has those of the references before it: the larger of its operands', and 1 more if it counts
+abbrev pub gateDepth : Gate → (d : List ℕ) → ℕ
+gateDepth g d = plusCounted g (max (getD d (g .left) 0) (getD d (g .right) 0))
 
 -- 02, 2026-01: d with each starting level in the place of its input
 unfoldable pub setLevels : List Start → (d : List ℕ) → List ℕ
@@ -30,9 +36,10 @@ setLevels (s ∷ ss) d = setLevels ss (set d (s .input) (s .level))
 unfoldable pub startLevels : Circuit → List ℕ
 startLevels c = setLevels (c .starts) (replicate (firstGate (c .inputs)) 0)
 
--- the depth of each reference; that it is source 003's: `DepthOfGate` and `DepthIsMultiplicative` in Theorems.antt
+-- the depth of each reference, gate by gate; that source 003's equation holds of it: `DepthOfGate` and `DepthIsMultiplicative` in
+-- Theorems.antt
 unfoldable pub depths : Circuit → List ℕ
-depths c = foldGates depthOp 0 (c .gates) (startLevels c)
+depths c = appendEach gateDepth (c .gates) (startLevels c)
 
 abbrev pub depth : Circuit → (v : ℕ) → ℕ
 depth c v = getD (depths c) v 0

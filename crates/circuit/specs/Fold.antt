@@ -1,5 +1,5 @@
--- Whatever is computed gate by gate, each gate from its operands: one fold over any carrier A, behind an explicit start list
--- of the values of the constants and the inputs.
+-- What is computed gate by gate, of a gate's kind and its operands' values: one fold over any carrier A, behind an explicit start list of the
+-- values of the constants and the inputs. Depths look at the operands' references too, and have words of their own (Depth.antt).
 use Prim.Native.Nat.{ℕ}
 use mathlib.Core.List.{List, map}
 use lib.ListN.{getD}

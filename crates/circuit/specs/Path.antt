@@ -1,10 +1,11 @@
--- 01, Circuits, 7, and Depth and critical count, 3: the paths from v up to an output, and the AND gates on them, v not counted.
+-- 01, Circuits, 7, and Depth and critical count, 3, and 02, 2026-06: the paths from v up to an output, and the AND gates on them that count, v
+-- left out.
 use Prim.Native.Nat.{ℕ}
 use mathlib.Core.Bool.{Bool, false, _&&_, _||_}
 use mathlib.Core.List.{List, [], _∷_}
 use lib.Dec.{eqb, leb, ltb}
 use Rattle.circuit.specs.Circuit.{Gate, Circuit, firstGate, references, gateAt}
-use Rattle.circuit.specs.Depth.{plusAnd}
+use Rattle.circuit.specs.Depth.{plusCounted}
 
 -- whether v is one of the list
 unfoldable pub isAmong : ℕ → List ℕ → Bool
@@ -31,7 +32,7 @@ unfoldable pub isPath : Circuit → (v : ℕ) → (path : List ℕ) → Bool
 isPath c v [] = isOutput c v
 isPath c v (w ∷ ws) = isGate c w && (isOperand v (gateAt c w) && isPath c w ws)
 
--- its AND gates, v not counted
-unfoldable pub andsOn : Circuit → (path : List ℕ) → ℕ
-andsOn c [] = 0
-andsOn c (w ∷ ws) = plusAnd (gateAt c w .kind) (andsOn c ws)
+-- how many gates on it count, v left out
+unfoldable pub countedOn : Circuit → (path : List ℕ) → ℕ
+countedOn c [] = 0
+countedOn c (w ∷ ws) = plusCounted (gateAt c w) (countedOn c ws)

@@ -1,4 +1,4 @@
--- Live (01, Circuits, 7) and above (01, Depth and critical count, 3) in one pass from the last gate to the first. A reference's
+-- Live (01, Circuits, 7) and above (01, Depth and critical count, 3, and 02, 2026-06) in one pass from the last gate to the first. A reference's
 -- reverse depth is 0 if it is not live, else its above plus 1. That this is what 01's paths say: `LiveIsReached` and
 -- `AboveIsLargest` in Theorems.antt.
 -- An example: inputs 2 and 3, gate 4 the AND 2·3, gate 5 the XOR 3⊕3, gate 6 the AND 4·3, which is the output. Marked: 6 has 1. Gate 6 is
@@ -11,9 +11,9 @@ use lib.Dec.{eqb, ltb}
 use lib.ListN.{getD, set, replicate}
 use Rattle.lists.specs.First.{first}
 use Rattle.circuit.specs.Circuit.{Gate, Circuit, firstGate, references}
-use Rattle.circuit.specs.Depth.{plusAnd}
+use Rattle.circuit.specs.Depth.{plusCounted}
 
--- each output is live, so far with no AND above it
+-- each output is live, so far with nothing above it
 unfoldable pub markOutputs : (outputs d : List ℕ) → List ℕ
 markOutputs [] d = d
 markOutputs (o ∷ os) d = markOutputs os (set d o 1)
@@ -22,11 +22,11 @@ markOutputs (o ∷ os) d = markOutputs os (set d o 1)
 abbrev pub raise : (d : List ℕ) (v x : ℕ) → List ℕ
 raise d v x = set d v (max (getD d v 0) x)
 
--- A live gate g of reference n makes its operands live; an AND counts in what is above them.
+-- A live gate g of reference n makes its operands live; if it counts, there is one more above them.
 unfoldable pub raiseOperands : ℕ → Gate → (d : List ℕ) → List ℕ
 raiseOperands n g d =
     first (eqb (getD d n 0) 0) d
-    (raise (raise d (g .left) (plusAnd (g .kind) (getD d n 0))) (g .right) (plusAnd (g .kind) (getD d n 0)))
+    (raise (raise d (g .left) (plusCounted g (getD d n 0))) (g .right) (plusCounted g (getD d n 0)))
 
 -- the gates from reference n on, the last one first
 unfoldable pub raiseGates : ℕ → List Gate → (d : List ℕ) → List ℕ

@@ -15,11 +15,11 @@ use Rattle.circuit.specs.Each.{countGates, EachGate}
 use Rattle.circuit.specs.Fold.{foldGates}
 use Rattle.circuit.specs.Valuation.{Ordered, Solves}
 use Rattle.circuit.specs.Evaluation.{evaluate}
-use Rattle.circuit.specs.Depth.{plusAnd, startLevels, depth, circuitDepth}
-use Rattle.circuit.specs.Path.{isAmong, isGate, isOperand, isPath, andsOn}
+use Rattle.circuit.specs.Depth.{isCounted, plusCounted, startLevels, depth, circuitDepth}
+use Rattle.circuit.specs.Path.{isAmong, isGate, isOperand, isPath, countedOn}
 use Rattle.circuit.specs.MultiplicativeDepth.{contribution, multiplicativeDepth}
 use Rattle.circuit.specs.ReverseDepth.{isLive, above}
-use Rattle.circuit.specs.Critical.{criticalCount}
+use Rattle.circuit.specs.Critical.{isCritical, criticalCount}
 use Rattle.circuit.specs.Trim.{renameGate, isKept, newNumber, oldNumber, trimOf}
 use Rattle.circuit.specs.EvaluateCall.{evaluating}
 use Rattle.circuit.specs.MeasureCall.{measuring}
@@ -143,9 +143,10 @@ EvaluationGivesBits =
 abbrev pub DepthOfGate : Type 0
 DepthOfGate =
     (c : Circuit) → Ordered (firstGate (c .inputs)) (c .gates) → (v : ℕ) → isGate c v ≡ true
-    → depth c v ≡ contribution (gateAt c v .kind) + max (depth c (gateAt c v .left)) (depth c (gateAt c v .right))
+    → depth c v ≡ contribution (gateAt c v) + max (depth c (gateAt c v .left)) (depth c (gateAt c v .right))
 
--- So the depth of every gate, and of every other reference, is `multiplicativeDepth`: 003's, with starting levels.
+-- So the depth of every gate, and of every other reference, is `multiplicativeDepth`: by 003's equation, with starting levels, and with nothing
+-- contributed by an AND with a constant.
 abbrev pub DepthIsMultiplicative : Type 0
 DepthIsMultiplicative = (c : Circuit) → Ordered (firstGate (c .inputs)) (c .gates) → (v : ℕ) → multiplicativeDepth c v ≡ depth c v
 
@@ -156,18 +157,29 @@ abbrev pub LiveIsReached : Type 0
 LiveIsReached =
     (t : List ℕ) → WellFormed t → (v : ℕ) → (isLive (decode t) v ≡ true) ↔ ((path : List ℕ) × (isPath (decode t) v path ≡ true))
 
--- A live reference's `above` is the number of AND gates on some path, and no path has more.
+-- A live reference's `above` is the number of gates that count on some path, and on no path are there more.
 abbrev pub AboveIsLargest : Type 0
 AboveIsLargest =
     (t : List ℕ) → WellFormed t → (v : ℕ) → isLive (decode t) v ≡ true
-    → ((path : List ℕ) × (isPath (decode t) v path ≡ true) × (andsOn (decode t) path ≡ above (decode t) v))
-    × ((path : List ℕ) → isPath (decode t) v path ≡ true → andsOn (decode t) path ≤ above (decode t) v)
+    → ((path : List ℕ) × (isPath (decode t) v path ≡ true) × (countedOn (decode t) path ≡ above (decode t) v))
+    × ((path : List ℕ) → isPath (decode t) v path ≡ true → countedOn (decode t) path ≤ above (decode t) v)
 
--- So a live gate's operands are live, and above each of them is what is above the gate, and the gate itself if it is an AND, or more.
+-- So a live gate's operands are live, and above each of them is what is above the gate, and the gate itself if it counts, or more.
 abbrev pub OperandsOfLive : Type 0
 OperandsOfLive =
     (t : List ℕ) → WellFormed t → (v w : ℕ) → isGate (decode t) w ≡ true → isOperand v (gateAt (decode t) w) ≡ true → isLive (decode t) w ≡ true
-    → (isLive (decode t) v ≡ true) × (plusAnd (gateAt (decode t) w .kind) (above (decode t) w) ≤ above (decode t) v)
+    → (isLive (decode t) v ≡ true) × (plusCounted (gateAt (decode t) w) (above (decode t) w) ≤ above (decode t) v)
+
+-- 01, Depth and critical count, 4, on paths: no path from a reference, with its depth, makes more than D, and a gate is critical exactly if
+-- it counts and some path from it, with its depth, makes D.
+abbrev pub CriticalIsDeepest : Type 0
+CriticalIsDeepest =
+    (t : List ℕ) → WellFormed t → (v : ℕ)
+    → ((path : List ℕ) → isPath (decode t) v path ≡ true → depth (decode t) v + countedOn (decode t) path ≤ circuitDepth (decode t))
+    × (isGate (decode t) v ≡ true
+    → (isCritical (decode t) v (gateAt (decode t) v) ≡ true)
+    ↔ ((isCounted (gateAt (decode t) v) ≡ true)
+    × ((path : List ℕ) × (isPath (decode t) v path ≡ true) × (depth (decode t) v + countedOn (decode t) path ≡ circuitDepth (decode t)))))
 
 -- ---- trimming
 

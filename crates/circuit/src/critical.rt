@@ -17,6 +17,7 @@ use crate::depth::is_counted;
 use crate::depth::output_depth;
 use crate::reverse_depth::mark_outputs;
 use crate::reverse_depth::raise_operands;
+use crate::table::Gate;
 use crate::table::MAX_REFERENCES;
 use crate::table::first_gate;
 use crate::table::gate_line;
@@ -29,16 +30,16 @@ pub struct DepthPair {
 }
 
 // 1 for a gate that is critical, else 0, by its depth and its reverse depth, where the circuit is `deepest` deep.
-fn critical_here(kind: u32, depth: u32, reverse: u32, deepest: u32) -> u32
+fn critical_here(g: Gate, depth: u32, reverse: u32, deepest: u32) -> u32
     requires { ⌜ depth ≤ maxDepth ⌝ }
     requires { ⌜ reverse ≤ maxGates + 1 ⌝ }
-    ensures { λ r. ⌜ r ≡ first (isCounted kind && (ltb 0 reverse && eqb (depth + (reverse - 1)) deepest)) 1 0 ⌝ }
+    ensures { λ r. ⌜ r ≡ first (isCounted g && (ltb 0 reverse && eqb (depth + (reverse - 1)) deepest)) 1 0 ⌝ }
     ensures { λ r. ⌜ r ≤ 1 ⌝ }
 {
     if reverse == 0 {
         return 0;
     }
-    if is_counted(kind) & (depth + (reverse - 1) == deepest) {
+    if is_counted(g) & (depth + (reverse - 1) == deepest) {
         1
     } else {
         0
@@ -64,7 +65,7 @@ pub fn critical_with_reverse_depths(t: &[u32], d: &[u32], deepest: u32, u: &mut 
     while 0 < i {
         i -= 1;
         let g = gate_line(t, from, i);
-        count += critical_here(g.kind, d[first + i], u[first + i], deepest);
+        count += critical_here(g, d[first + i], u[first + i], deepest);
         raise_operands(g, first + i, u);
     }
     count

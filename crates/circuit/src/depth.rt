@@ -1,4 +1,4 @@
-// Depths of references, and the depth of a circuit (01, Depth and critical count, 1 and 2; 02, 2026-01 and 2026-04).
+// Depths of references, and the depth of a circuit (01, Depth and critical count, 1 and 2; 02, 2026-01, 2026-04 and 2026-06).
 ghost use mathlib.Core.Path.{_≡_};
 ghost use Prim.Native.Nat.{_+_, _≤_, max};
 ghost use lib.ListN.{length, take, replicate};
@@ -6,9 +6,11 @@ ghost use Rattle.lines.specs.Calls.{over};
 ghost use Rattle.circuit.specs.Circuit.{maxDepth, firstGate};
 ghost use Rattle.circuit.specs.Table.{inputs, gates, refs, decode};
 ghost use Rattle.circuit.specs.WellFormed.{WellFormed};
-ghost use Rattle.circuit.specs.Depth.{isCounted, plusAnd, depthOp, setLevels, startLevels, depths, circuitDepth};
+ghost use Rattle.circuit.specs.Depth.{isCounted, plusCounted, setLevels, startLevels, depths, circuitDepth};
 ghost use Rattle.circuit.specs.MultiplicativeDepth.{contribution};
 use crate::table::AND;
+use crate::table::CONSTANTS;
+use crate::table::Gate;
 use crate::table::closings_from;
 use crate::table::first_gate;
 use crate::table::gate_line;
@@ -21,36 +23,36 @@ pub fn larger(a: u32, b: u32) -> u32
     if a < b { b } else { a }
 }
 
-// Whether a gate of this kind counts for depth.
-pub fn is_counted(kind: u32) -> bool
-    ensures { λ r. ⌜ r ≡ isCounted kind ⌝ }
+// Whether a gate counts for depth, above and the critical count: an AND with no constant on either side.
+pub fn is_counted(g: Gate) -> bool
+    ensures { λ r. ⌜ r ≡ isCounted g ⌝ }
 {
-    kind == AND
+    (g.kind == AND) & !((g.left < CONSTANTS) | (g.right < CONSTANTS))
 }
 
-// What a gate of this kind contributes to its own depth: 1 if it counts, else 0.
-fn contribution(kind: u32) -> u32
-    ensures { λ r. ⌜ r ≡ contribution kind ⌝ }
+// What a gate contributes to its own depth: 1 if it counts, else 0.
+fn contribution(g: Gate) -> u32
+    ensures { λ r. ⌜ r ≡ contribution g ⌝ }
 {
-    if is_counted(kind) { 1 } else { 0 }
+    if is_counted(g) { 1 } else { 0 }
 }
 
 // One more for a gate that counts, its contribution first. Reverse depths go by it, which are at most the number of gates and 1.
-pub fn plus_and(kind: u32, x: u32) -> u32
+pub fn plus_counted(g: Gate, x: u32) -> u32
     requires { ⌜ x ≤ maxDepth + 1 ⌝ }
-    ensures { λ r. ⌜ r ≡ plusAnd kind x ⌝ }
+    ensures { λ r. ⌜ r ≡ plusCounted g x ⌝ }
 {
-    contribution(kind) + x
+    contribution(g) + x
 }
 
 // A gate's depth, from those of its operands, in the steps of source 003, section 2.1: first its own contribution, then the larger of these,
 // then the two added.
-fn gate_depth(kind: u32, a: u32, b: u32) -> u32
+fn gate_depth(g: Gate, a: u32, b: u32) -> u32
     requires { ⌜ a ≤ maxDepth ⌝ }
     requires { ⌜ b ≤ maxDepth ⌝ }
-    ensures { λ r. ⌜ r ≡ depthOp kind a b ⌝ }
+    ensures { λ r. ⌜ r ≡ plusCounted g (max a b) ⌝ }
 {
-    let own = contribution(kind);
+    let own = contribution(g);
     let operands = larger(a, b);
     own + operands
 }
@@ -104,7 +106,7 @@ pub fn depths_from(t: &[u32], start: usize, d: &mut [u32])
         let g = gate_line(t, from, i);
         let left = g.left as usize;
         let right = g.right as usize;
-        d[first + i] = gate_depth(g.kind, d[left], d[right]);
+        d[first + i] = gate_depth(g, d[left], d[right]);
     }
 }
 

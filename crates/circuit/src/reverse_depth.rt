@@ -10,7 +10,7 @@ ghost use Rattle.circuit.specs.WellFormed.{WellFormed};
 ghost use Rattle.circuit.specs.ReverseDepth.{markOutputs, raise, raiseOperands, reverseDepths};
 use crate::depth::clear;
 use crate::depth::larger;
-use crate::depth::plus_and;
+use crate::depth::plus_counted;
 use crate::table::Gate;
 use crate::table::closings_from;
 use crate::table::first_gate;
@@ -36,7 +36,7 @@ pub fn raise_operands(g: Gate, own: usize, u: &mut [u32])
     if u[own] == 0 {
         return;
     }
-    let x = plus_and(g.kind, u[own]);
+    let x = plus_counted(g, u[own]);
     raise_place(u, g.left as usize, x);
     raise_place(u, g.right as usize, x);
 }

@@ -5,7 +5,7 @@ use Prim.Native.Nat.{ℕ, zero, suc, _+_, _≤_, _<_}
 use native.Mathlib.Nat.{add-zero, le-of-eq}
 use native.Mathlib.Omega.{arith}
 use lib.ListN.{length, take, drop, getD, set, length-set, length-append, drop-of-length-le, take-append-drop}
-use lib.Seq.{take-all, take-at, take-take, take-suc-set, length-take-le, drop-nil, drop-set-lt, drop-drop, getD-take}
+use lib.Seq.{take-all, take-at, take-take, take-suc-set, length-take-le, drop-nil, drop-cons, drop-set-lt, drop-drop, getD-take, getD-append-seam}
 use Rattle.lists.specs.Each.{appendEach}
 
 module _ {A B : Type 0} (make : A → List B → B) where
@@ -33,6 +33,21 @@ module _ {A B : Type 0} (make : A → List B → B) where
   each-resume [] vs n i e = rw (drop-nil {A = A} i) (take-all n vs (omega arith))
   each-resume (x ∷ xs) vs n zero e = ap (appendEach make (x ∷ xs)) (each-begin (x ∷ xs) vs n (omega arith))
   each-resume (x ∷ xs) vs n (suc i) e = each-resume xs (vs ++ (make x vs ∷ [])) n i (omega (arith, length-append vs (make x vs ∷ [])))
+
+  -- value i is made of element i and of the values before it
+  pub each-value : (xs : List A) (vs : List B) (n i : ℕ) (d : A) (z : B) → length vs + i ≡ n → i < length xs
+      → getD (appendEach make xs vs) n z ≡ make (getD xs i d) (take n (appendEach make xs vs))
+  unfolding appendEach
+  each-value xs vs n i d z e h =
+      let all = appendEach make xs vs in
+      let before = take n all in
+      let x = make (getD xs i d) before in
+      let long : length before ≡ n = length-take-le n all (omega (arith, each-length xs vs)) in
+      let next : appendEach make (drop (suc i) xs) (before ++ (x ∷ [])) ≡ all =
+      ap (λ l. appendEach make l before) (sym (drop-cons xs i d h)) ∙ each-resume xs vs n i e in
+      ap (λ l. getD l n z) (sym next)
+      ∙ each-front (drop (suc i) xs) (before ++ (x ∷ [])) n z (omega (arith, length-append before (x ∷ [])))
+      ∙ ap (λ k. getD (before ++ (x ∷ [])) k z) (sym long) ∙ getD-append-seam before x [] z
 
 -- the first m + i places of d hold the first i values behind `start`, m of them
 pub record Filled {A B : Type 0} (make : A → List B → B) (xs : List A) (start : List B) (m size : ℕ) (d : List B) (i : ℕ) : Type 0 where

@@ -1,5 +1,5 @@
 -- 01, Marked examples, 3 and 4: the cases (a) to (h). What is computed is by the definitions that the contracts cite; beside it is what 01
--- states. That the two are equal in every case is the one statement at the end, proved under its name in proofs/.
+-- states, and of (g) what 02, 2026-06, makes of that. That the two are equal in every case is the one statement at the end, proved under its name in proofs/.
 use Prim.Native.Nat.{ℕ}
 use Prim.Native.Char.{code}
 use Prim.Native.String.{String, [] as nil, _∷_ as cons}
@@ -223,9 +223,9 @@ markedExamples =
     -- (f) v·w to w·v gets 6 at the sole gate 2·3, the output: nothing is kept, and both pairs are 1, 1
     ∷ verdictsOf soleGate commutativity soleGateSite is gives (6 ∷ [])
     ∷ rewritingOf soleGate commutativity soleGateSite .answer is gives (3 ∷ 1 ∷ 1 ∷ 1 ∷ 1 ∷ 0 ∷ [])
-    -- (g) v·1 to v at the sole gate 1·input, the output, gets 4 with mask 0, then 0 with mask 1, D from 1 to 0
-    ∷ verdictsOf oneAndInput identity straightThenSwapped is gives (4 ∷ 0 ∷ [])
-    ∷ rewritingOf oneAndInput identity straightThenSwapped .answer is gives (2 ∷ 1 ∷ 1 ∷ 0 ∷ 0 ∷ 1 ∷ [])
+    -- (g) v·1 to v at the sole gate 1·input, the output, gets 4 with mask 0, then 6 with mask 1 (02, 2026-06): D is 0 already
+    ∷ verdictsOf oneAndInput identity straightThenSwapped is gives (4 ∷ 6 ∷ [])
+    ∷ rewritingOf oneAndInput identity straightThenSwapped .answer is gives (3 ∷ 0 ∷ 0 ∷ 0 ∷ 0 ∷ 0 ∷ [])
     -- (h) a circuit whose only output is constant 1 has D and N 0, need 1, by a load and an emit
     ∷ measuring (table constantOne) is gives (0 ∷ 0 ∷ [])
     ∷ translationOf constantOne 1 is gives (2 ∷ 1 ∷ [])

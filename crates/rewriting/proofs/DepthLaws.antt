@@ -9,8 +9,7 @@ use Rattle.lists.specs.Each.{appendEach}
 use Rattle.lists.proofs.Each.{each-length, each-begin}
 use Rattle.lines.specs.Calls.{over}
 use Rattle.circuit.specs.Circuit.{Circuit, firstGate, references}
-use Rattle.circuit.specs.Depth.{depthOp, startLevels, depths}
-use Rattle.circuit.specs.Fold.{gateValue}
+use Rattle.circuit.specs.Depth.{gateDepth, startLevels, depths}
 use Rattle.circuit.specs.Table.{inputs, refs, decode}
 use Rattle.circuit.specs.Trim.{renameGate}
 use Rattle.circuit.proofs.FrontLaws.{front-is}
@@ -55,10 +54,10 @@ below-stays c u gate b lo hi =
     let before = gatesBefore c gate in
     let long : gate ≡ length start + length before
     = omega (arith, length-take-le k (c .gates) (omega arith), start-length c) in
-    each-alike (gateValue depthOp 0) before
+    each-alike gateDepth before
     (map (renameGate (rightRenaming u gate b)) (u .rights) ++ map (renameGate (renaming u gate b)) (gatesBehind c gate))
     (drop k (c .gates)) start gate long
-    ∙ ap (λ gs. take gate (appendEach (gateValue depthOp 0) gs start)) (take-append-drop k (c .gates))
+    ∙ ap (λ gs. take gate (appendEach gateDepth gs start)) (take-append-drop k (c .gates))
 
 -- and once they are copied over the front of d, the others follow from `start` on
 pub copied-below : (t current d₀ d : List ℕ) (gate start : ℕ) → firstGate (inputs t) + start ≡ gate → gate ≤ length current

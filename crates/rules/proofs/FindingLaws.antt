@@ -1,6 +1,6 @@
 -- Where there is a substitution, the match finds it. Assumes nothing.
 use mathlib.Core.Path.{_≡_, refl, sym, ap, _∙_}
-use mathlib.Core.Bool.{Bool, true, false, _||_}
+use mathlib.Core.Bool.{Bool, true, false}
 use mathlib.Core.List.{List}
 use mathlib.Core.Option.{none, some, bind}
 use Prim.Native.Nat.{ℕ, zero, suc, _+_, _-_, _≤_, _<_}
@@ -10,7 +10,7 @@ use native.Mathlib.Omega.{arith}
 use lib.Dec.{eqb}
 use lib.ListN.{length, drop, getD, set, length-set, length-drop}
 use lib.Seq.{getD-set-same, getD-set-other, getD-drop}
-use borrow.Author.Tests.{eqb-true, eqb-false, eq-eqb}
+use borrow.Author.Tests.{eqb-false, eq-eqb}
 use Rattle.lists.specs.First.{first}
 use Rattle.lists.specs.Below.{allBelow}
 use Rattle.lists.proofs.Tests.{right-of}
@@ -19,6 +19,7 @@ use Rattle.circuit.specs.Circuit.{Gate, Circuit, firstGate, noGate, gateAt}
 use Rattle.circuit.specs.Path.{isOperand, isUsed}
 use Rattle.circuit.specs.Refusal.{operandsBelow}
 use Rattle.circuit.proofs.EachLaws.{each-at, each-all}
+use Rattle.circuit.proofs.GateLaws.{operand-cases}
 use Rattle.circuit.proofs.ValidLaws.{of-ordered}
 use Rattle.rules.specs.Rule.{Rule, hole, root, maxLeftReferences}
 use Rattle.rules.specs.RuleRefusal.{holeUsed, leftUsed}
@@ -91,13 +92,6 @@ module _ (b : List ℕ) where
       crossed : (s : Bool) (x y : ℕ) → first s (bindOperands g y x d) (bindOperands g x y d) ≡ bindOperands g (first s y x) (first s x y) d
       crossed true x y = refl
       crossed false x y = refl
-
-operand-cases : (P : ℕ → Type 0) (g : Gate) → P (g .left) → P (g .right) → (r : ℕ) → isOperand r g ≡ true → P r
-operand-cases P g pl pr r h = go (eqb r (g .left)) refl h
-  where
-    go : (x : Bool) → eqb r (g .left) ≡ x → (x || eqb r (g .right)) ≡ true → P r
-    go true e h = rw (eqb-true r (g .left) e) pl
-    go false e h = rw (eqb-true r (g .right) h) pr
 
 module _ (c : Circuit) (u : Rule) (w : ValidRule u) (gate mask : ℕ) (b : List ℕ) (sub : Substitution c u gate mask b) where
   abbrev n₀ : ℕ

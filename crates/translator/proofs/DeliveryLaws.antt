@@ -56,7 +56,7 @@ module _ (circuit rules sites : List ℕ) (safe : SafeRun circuit rules sites) w
   same-loads : (bytes : List ℕ) → startLeveled (decode circuit) bytes ≡ startLeveled back bytes
   unfolding startLevels
   same-loads bytes =
-      ap₂ (λ n ss. atLevels (startBits bytes) (setLevels ss (replicate (firstGate n) 0))) (sym (safe .same-inputs)) (sym (safe .same-starts))
+      ap₂ (λ n ss. atLevels 0 (startBits bytes) (setLevels ss (replicate (firstGate n) 0))) (sym (safe .same-inputs)) (sym (safe .same-starts))
 
   delivered : (bytes : List ℕ) → length bytes ≡ inputs circuit → SafeDelivery circuit rules sites bytes
   delivered bytes h =

@@ -27,11 +27,11 @@ beyond [] i h = refl
 beyond (x ∷ l) zero h = absurd (omega arith)
 beyond (x ∷ l) (suc i) h = beyond l i (omega arith)
 
--- in a register's place
-pub full : {A : Type 0} (l : List (Option A)) (r : ℕ) (v : Option A) → getElem? l r ≡ some v → getD l r none ≡ v
-full [] r v e = absurd (Option·some-ne-none v (sym e))
-full (x ∷ l) zero v e = Option·some-injective x v e
-full (x ∷ l) (suc r) v e = full l r v e
+-- what is there, in a register's place too
+pub full : {A : Type 0} (l : List A) (z : A) (r : ℕ) (v : A) → getElem? l r ≡ some v → getD l r z ≡ v
+full [] z r v e = absurd (Option·some-ne-none v (sym e))
+full (x ∷ l) z zero v e = Option·some-injective x v e
+full (x ∷ l) z (suc r) v e = full l z r v e
 
 unread : {A : Type 0} (l : List (Option A)) (r : ℕ) → getD l r none ≡ none → (getElem? l r ≡ some none) ⊎ (length l ≤ r)
 unread [] r e = inr (omega arith)
@@ -119,7 +119,7 @@ module _ {A : Type 0} (start : List A) (op : ℕ → A → A → A) (m : Machine
       go (inr l) = does-operation l ∙ fails-then _ (readFrom m y) (λ a. fails-then _ (readFrom m z) (λ b. out (op o a b)))
 
   pub fault-executes : Fault start m o x y z → Does none
-  fault-executes (reads-empty r k e) = unreadable r k (full (m .registers) r none e)
+  fault-executes (reads-empty r k e) = unreadable r k (full (m .registers) none r none e)
   fault-executes (reads-beyond r k h) = unreadable r k (List·getD-eq-default (m .registers) none {n = r} h)
   fault-executes (writes-beyond r k h) = unwritable r k h
   fault-executes (loads-neither k h) = does-load k ∙ fails-first _ (getElem? start y) (beyond start y h)

@@ -21,6 +21,7 @@ pub mod MomentLaws
 pub mod DisciplineLaws
 pub mod HoldingLaws
 pub mod LeveledLaws
+pub mod PublicLaws
 pub mod LastUseLaws
 pub mod CountingLaws
 pub mod ArrayLaws

@@ -1,8 +1,8 @@
 -- The theorems about the register program. Assumes nothing.
 use mathlib.Core.Path.{_≡_, refl, sym, ap, ap₂, _∙_}
-use mathlib.Core.Bool.{true}
+use mathlib.Core.Bool.{true, false}
 use mathlib.Core.List.{List, [], _∷_, _++_, map, append-assoc}
-use mathlib.Core.Option.{Option, none, some, bind-eq-some-iff}
+use mathlib.Core.Option.{Option, none, some, bind-eq-some-iff, Option·none-ne-some}
 use Prim.Native.Nat.{ℕ, zero, suc, _+_, _*_, _<_}
 use native.Mathlib.Nat.{le-trans, not-suc-le-zero, le-of-suc-le-suc}
 use native.Mathlib.Omega.{arith}
@@ -20,13 +20,13 @@ use Rattle.circuit.proofs.StartLaws.{starts-at-level, starts-are-right}
 use Rattle.circuit.proofs.ValidLaws.{valid-decode, limited-decode}
 use Rattle.circuit.proofs.TrimLaws.{trim-limited, trim-outputs}
 use Rattle.translator.specs.Machine.{emptyMachine, runFrom, run}
-use Rattle.translator.specs.LeveledBit.{LeveledBit, leveledOp, atLevel, startLeveled, runOn}
+use Rattle.translator.specs.LeveledBit.{LeveledBit, leveledOp, loadedFrom, startLeveled, runOn}
 use Rattle.translator.specs.Need.{need}
 use Rattle.translator.specs.Actions.{operandLoads, actionsFrom}
 use Rattle.translator.specs.Program.{program, encodeProgram, instructionsOf}
 use Rattle.translator.specs.Written.{registersWritten}
 use Rattle.translator.specs.TranslateCall.{translating}
-use Rattle.translator.specs.Theorems.{RunWithinLimit, InstructionDoes, InstructionFaults, BitsAndLevels, InstructionsAfterEncode, LastUseDecides, PressureIsNeed, AllocatorIsProgram, ProgramComputes, ProgramEmitsOutputs, NeedIsSome, RegistersWithinNeed, ProgramWritesNeed, ProgramFollowsActions, ProgramCount, ActionsOperateInOrder, ActionsLoadOnce, ActionsLoadAtFirstUse, ActionsLoadForOutputs, ValuesAreHeld, ProgramIsDisciplined, OneProgram, DisciplinedRuns, TranslationRuns, TranslationWritesNeed, LimitChangesNothing, TranslationIsDisciplined, EqualCircuitsEqualPrograms}
+use Rattle.translator.specs.Theorems.{RunWithinLimit, InstructionDoes, InstructionFaults, BitsAndLevels, PublicUntilOverwritten, InstructionsAfterEncode, LastUseDecides, PressureIsNeed, AllocatorIsProgram, ProgramComputes, ProgramEmitsOutputs, NeedIsSome, RegistersWithinNeed, ProgramWritesNeed, ProgramFollowsActions, ProgramCount, ActionsOperateInOrder, ActionsLoadOnce, ActionsLoadAtFirstUse, ActionsLoadForOutputs, ValuesAreHeld, ProgramIsDisciplined, OneProgram, DisciplinedRuns, TranslationRuns, TranslationWritesNeed, LimitChangesNothing, TranslationIsDisciplined, EqualCircuitsEqualPrograms}
 use Rattle.translator.proofs.CountLaws.{count-some, count-all}
 use Rattle.translator.proofs.TrimmedLaws.{trimmed-of}
 use Rattle.translator.proofs.PressureLaws.{linear-need, outputs-need, distinct-count}
@@ -39,7 +39,8 @@ use Rattle.translator.proofs.LoadLaws.{operations-actions, actions-spli
 use Rattle.translator.proofs.ShapeLaws.{program-shape, program-length, program-limit, encode-length, instructions-encode}
 use Rattle.translator.proofs.RegisterLaws.{run-within}
 use Rattle.translator.proofs.WrittenLaws.{written-used, program-writes}
-use Rattle.translator.proofs.LeveledLaws.{levels-at, bits-long, starts-long, leveled-length, leveledOutputs, emitted-bits, emitted-levels}
+use Rattle.translator.proofs.LeveledLaws.{noValue, loaded-at, public-start, leveled-length, leveledOutputs, emitted-bits, emitted-levels}
+use Rattle.translator.proofs.PublicLaws.{empty-register, run-marks}
 use Rattle.translator.proofs.MomentLaws.{after-code}
 use Rattle.translator.proofs.DisciplineLaws.{disciplined-same, program-disciplined}
 use Rattle.translator.proofs.HoldingLaws.{holding-before, holding-after, holding-end}
@@ -51,8 +52,8 @@ use Rattle.translator.proofs.CallLaws.{Translation, translation-is}
 pub instruction-does : InstructionDoes
 instruction-does A start op m = (
   λ d r v h e. load-executes start op m d h r v e,
-  λ kind d a b v w k h e f. operation-executes start op m d h kind a b v w k (full (m .registers) a (some v) e) (full (m .registers) b (some w) f),
-  λ a v e. emit-executes start op m a v (full (m .registers) a (some v) e),
+  λ kind d a b v w k h e f. operation-executes start op m d h kind a b v w k (full (m .registers) none a (some v) e) (full (m .registers) none b (some w) f),
+  λ a v e. emit-executes start op m a v (full (m .registers) none a (some v) e),
 )
 
 pub instruction-faults : InstructionFaults
@@ -74,24 +75,31 @@ pub bits-and-levels : BitsAndLevels
 unfolding bitOp
 bits-and-levels = (
   λ a b. refl,
-  λ a b. refl,
+  λ a b p. rw p,
+  λ a b p. rw p,
   λ c bytes e right.
-      let at = levels-at (startBits bytes) (startLevels c) (starts-long c bytes e) in
-      let n = bits-long c bytes e in
+      let at = loaded-at c bytes e in
       let (_, listed, other) = starts-at-level c right in
       let constant : (v : ℕ) → v < constants → getD (startLevels c) v 0 ≡ 0 =
       λ v h. other v (λ i l q. let z : ⊥ = omega (arith, starts-are-right c .0 right .names-input i l .0) in z) in (
         leveled-length c bytes e,
-        at 0 (omega (arith, n)) ∙ ap (λ l. some (atLevel 0 l)) (constant 0 (omega arith)),
-        at 1 (omega (arith, n)) ∙ ap (λ l. some (atLevel 1 l)) (constant 1 (omega arith)),
+        at 0 (omega arith) ∙ ap (λ l. some (loadedFrom 0 0 l)) (constant 0 (omega arith)),
+        at 1 (omega arith) ∙ ap (λ l. some (loadedFrom 1 1 l)) (constant 1 (omega arith)),
         λ i h. (
           getD (startLevels c) (constants + i) 0,
-          at (constants + i) (omega (arith, n)) ∙ ap (λ b. some (atLevel b (getD (startLevels c) (constants + i) 0))) (byte-at bytes i (omega arith)),
+          at (constants + i) (omega arith)
+              ∙ ap₂ (λ b p. some (record { bit = b; level = getD (startLevels c) (constants + i) 0; public = p })) (byte-at bytes i (omega arith))
+              (le-ltb (constants + i) constants (omega arith)),
           λ k l q. ap (λ v. getD (startLevels c) v 0) (sym q) ∙ listed k l,
           other (constants + i),
         ),
       ),
 )
+
+pub public-until-overwritten : PublicUntilOverwritten
+public-until-overwritten c bytes e limit is m r =
+    run-marks (startLeveled c bytes) (public-start c bytes e) is (emptyMachine limit) m (λ d. false) r
+    (λ d v q. absurd (Option·none-ne-some v (sym (empty-register limit d) ∙ q)))
 
 pub run-within-limit : RunWithinLimit
 unfolding run
@@ -128,7 +136,7 @@ unfolding circuitDepth
 program-emits-outputs t w bytes l limit h =
     let levels = emitted-levels (decode t) bytes l in (
       leveledOutputs (decode t) bytes,
-      program-computes LeveledBit leveledOp (atLevel 0 0) (startLeveled (decode t) bytes) t w (leveled-length (decode t) bytes l) limit h,
+      program-computes LeveledBit leveledOp noValue (startLeveled (decode t) bytes) t w (leveled-length (decode t) bytes l) limit h,
       emitted-bits (decode t) bytes l,
       levels,
       ap largest levels,

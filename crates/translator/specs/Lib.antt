@@ -13,6 +13,7 @@ pub mod Allocator
 pub mod Registers
 pub mod Shape
 pub mod Written
+pub mod PublicRegister
 pub mod LoadOrder
 pub mod History
 pub mod Discipline

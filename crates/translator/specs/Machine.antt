@@ -1,5 +1,6 @@
 -- 01, Register program, 1 to 4 and 6: the machine, over any values A. `start` has the values of the constants and the inputs, and `op`
--- says what an operation gives, as in circuit's `foldGates`. 01's values, a bit and a level each, are in LeveledBit.antt.
+-- says what an operation gives, as in circuit's `foldGates`. 01's values, a bit and a level each, with the mark of 02,
+-- 2026-06, are in LeveledBit.antt.
 use Prim.Native.Nat.{ℕ}
 use mathlib.Core.Bool.{Bool, _&&_, _||_}
 use mathlib.Core.List.{List, [], _∷_, _++_}

@@ -3,7 +3,7 @@
 use Prim.Native.Nat.{ℕ, suc, _+_, _*_, _≤_, _<_, max}
 use mathlib.Core.Path.{_≡_}
 use mathlib.Core.Logic.{_↔_}
-use mathlib.Core.Bool.{true, _&&_}
+use mathlib.Core.Bool.{true, false, _&&_, _||_}
 use mathlib.Core.List.{List, [], _∷_, _++_, map}
 use mathlib.Core.Option.{none, some}
 use lib.Bits.{bitAnd, bitXor}
@@ -24,9 +24,9 @@ use Rattle.rules.specs.RuleRefusal.{rulesRefusal}
 use Rattle.rules.specs.SiteTable.{siteCount, sitesRefusal}
 use Rattle.rewriting.specs.Run.{zeros, handedBack, allVerdicts}
 use Rattle.rewriting.specs.RewriteCall.{rewriting}
-use Rattle.translator.specs.Machine.{Instruction, emitOpcode, loadOpcode, emitting, Machine, maxRegisters, execute, run}
+use Rattle.translator.specs.Machine.{Instruction, emitOpcode, loadOpcode, emitting, Machine, emptyMachine, maxRegisters, readFrom, execute, runFrom, run}
 use Rattle.translator.specs.Fault.{numbers, Operates, Holds, Fault}
-use Rattle.translator.specs.LeveledBit.{LeveledBit, leveledOp, atLevel, startLeveled, runOn}
+use Rattle.translator.specs.LeveledBit.{LeveledBit, leveledOp, startLeveled, runOn}
 use Rattle.translator.specs.LiveRange.{isUsedFrom, isConstantOrInput, isHeldBefore, isHeldAfter, isHeldAtEnd}
 use Rattle.translator.specs.Need.{countBelow, need}
 use Rattle.translator.specs.Actions.{Action, operate, isUnloaded, operandLoads, outputLoads, actions, loadsOf, operationsOf}
@@ -36,6 +36,7 @@ use Rattle.translator.specs.Pressure.{oneIf, linearNeed}
 use Rattle.translator.specs.Allocator.{allocationAfter, allocationBefore, allocationAtEnd}
 use Rattle.translator.specs.Shape.{withoutRegisters, instructionOf, registersIn, occurrences}
 use Rattle.translator.specs.Written.{WritesExactly}
+use Rattle.translator.specs.PublicRegister.{isPublicAfter}
 use Rattle.translator.specs.Discipline.{Disciplined}
 use Rattle.translator.specs.Moment.{Holding}
 use Rattle.translator.specs.TranslateCall.{programNumbers, isLimit, translating}
@@ -61,21 +62,33 @@ InstructionFaults =
     (A : Type 0) (start : List A) (op : ℕ → A → A → A) (m : Machine A) (o x y z : ℕ)
     → (execute start op (numbers o x y z) m ≡ none) ↔ Fault start m o x y z
 
--- 01, Register program, 2 and 5, of bits and levels: XOR has the larger level, AND that plus 1; the constants' bits are 0 and 1, at level 0, and
--- an input's is that of its byte, at the level that a starting line gives for it, else at 0 (02, 2026-01). Nothing else is loaded.
+-- 01, Register program, 2 and 5, of bits and levels: XOR has the larger level; AND has that plus 1, but the larger alone if an operand is public
+-- (02, 2026-06); no result is public. The constants' bits are 0 and 1, at level 0, and they are public. An input's bit is that of its byte, at the
+-- level that a starting line gives for it, else at 0 (02, 2026-01), and it is not public. Nothing else is loaded.
 abbrev pub BitsAndLevels : Type 0
 BitsAndLevels =
-    ((a b : LeveledBit) → leveledOp xorKind a b ≡ record { bit = bitXor (a .bit) (b .bit); level = max (a .level) (b .level) })
-    × ((a b : LeveledBit) → leveledOp andKind a b ≡ record { bit = bitAnd (a .bit) (b .bit); level = max (a .level) (b .level) + 1 })
+    ((a b : LeveledBit) → leveledOp xorKind a b ≡ record { bit = bitXor (a .bit) (b .bit); level = max (a .level) (b .level); public = false })
+    × ((a b : LeveledBit) → (a .public || b .public) ≡ false
+    → leveledOp andKind a b ≡ record { bit = bitAnd (a .bit) (b .bit); level = max (a .level) (b .level) + 1; public = false })
+    × ((a b : LeveledBit) → (a .public || b .public) ≡ true
+    → leveledOp andKind a b ≡ record { bit = bitAnd (a .bit) (b .bit); level = max (a .level) (b .level); public = false })
     × ((c : Circuit) (bytes : List ℕ) → length bytes ≡ c .inputs → startsRight c ≡ true
     → (length (startLeveled c bytes) ≡ firstGate (c .inputs))
-    × (getElem? (startLeveled c bytes) 0 ≡ some (atLevel 0 0))
-    × (getElem? (startLeveled c bytes) 1 ≡ some (atLevel 1 0))
+    × (getElem? (startLeveled c bytes) 0 ≡ some (record { bit = 0; level = 0; public = true }))
+    × (getElem? (startLeveled c bytes) 1 ≡ some (record { bit = 1; level = 0; public = true }))
     × ((i : ℕ) → i < c .inputs
     → (level : ℕ)
-    × (getElem? (startLeveled c bytes) (constants + i) ≡ some (atLevel (first (eqb (getD bytes i 0) 0) 0 1) level))
+    × (getElem? (startLeveled c bytes) (constants + i) ≡ some (record { bit = first (eqb (getD bytes i 0) 0) 0 1; level = level; public = false }))
     × ((k : ℕ) → k < length (c .starts) → getD (c .starts) k noStart .input ≡ constants + i → level ≡ getD (c .starts) k noStart .level)
     × (((k : ℕ) → k < length (c .starts) → getD (c .starts) k noStart .input ≡ constants + i → ⊥) → level ≡ 0)))
+
+-- 02, 2026-06, of registers: after any instructions that do not fault, a register is public exactly if the last write into it was a load of a
+-- constant.
+abbrev pub PublicUntilOverwritten : Type 0
+PublicUntilOverwritten =
+    (c : Circuit) (bytes : List ℕ) → length bytes ≡ c .inputs → (limit : ℕ) (is : List Instruction) (m : Machine LeveledBit)
+    → runFrom (startLeveled c bytes) leveledOp is (emptyMachine limit) ≡ some m
+    → (d : ℕ) (v : LeveledBit) → readFrom m d ≡ some v → v .public ≡ isPublicAfter is d false
 
 -- A run that ends without a fault has read and written only registers below the limit.
 abbrev pub RunWithinLimit : Type 1

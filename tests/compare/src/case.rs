@@ -16,7 +16,7 @@ use crate::calls::Calls;
 use crate::numbers::{
     alter, any_lines, odd_number, spoil_run, spoil_table, spoil_text, LINE_NUMBERS,
 };
-use crate::shapes::{chained, crowded, full, handed_on, overfull, symmetric};
+use crate::shapes::{chained, constant, crowded, full, handed_on, overfull, symmetric};
 
 /// How many rules are judged, sites matched and searched, and limits picked in a case or search.
 const JUDGED: u32 = 6;
@@ -85,6 +85,7 @@ fn texts(random: &mut Random, seed: u64, number: u64) -> [Vec<u8>; 3] {
         107 => full(random),
         113 => full(random).with_wrong_starts(random),
         rest if rest % 20 == 9 => symmetric(random),
+        rest if rest % 20 == 17 => constant(random),
         rest if rest % 10 == 3 => {
             let draft = chained(random);
             if random.chance(30) {

@@ -156,7 +156,23 @@ fn any_gate(random: &mut Random, kind: Kind, own: usize) -> Gate {
 pub fn chained(random: &mut Random) -> Draft {
     let rule = chain_rule(random);
     let mask = any_mask(random, &rule);
-    let (circuit, end) = planted(random, &rule, mask);
+    let (circuit, end) = planted(random, &rule, mask, 0);
+    aimed(random, rule, circuit, end, mask)
+}
+
+/// The same with a rule in stock, most of whose holes are constants in the circuit, and an AND above the pattern: such ANDs cost no
+/// level as take a constant, by what they are or by what the rule makes of them (02, 2026-06).
+pub fn constant(random: &mut Random) -> Draft {
+    let mut rules = stock();
+    let rule = rules.swap_remove(random.below(rules.len()));
+    let mask = any_mask(random, &rule);
+    let (mut circuit, end) = planted(random, &rule, mask, 70);
+    let above = Gate::new(Kind::And, end, random.below(circuit.references()));
+    if random.chance(70) {
+        circuit.outputs.clear();
+    }
+    circuit.outputs.push(circuit.references());
+    circuit.gates.push(random.pick(&[above, above.swapped()]));
     aimed(random, rule, circuit, end, mask)
 }
 
@@ -165,7 +181,7 @@ pub fn chained(random: &mut Random) -> Draft {
 pub fn symmetric(random: &mut Random) -> Draft {
     let rule = symmetric_rule(random);
     let mask = any_mask(random, &rule);
-    let (mut circuit, end) = planted(random, &rule, mask);
+    let (mut circuit, end) = planted(random, &rule, mask, 0);
     if random.chance(50) {
         let start = end + 1 - rule.left.len() - circuit.first_gate();
         let gate = &mut circuit.gates[start];
@@ -255,14 +271,22 @@ fn balanced(kind: Kind, mut terms: VecDeque<usize>, first: usize) -> (Vec<Gate>,
     (gates, terms.pop_back().unwrap_or(0))
 }
 
-/// A circuit with a rule's left side in it, crossed where the mask says so, and the reference of its last gate.
-fn planted(random: &mut Random, rule: &Rule, mask: u32) -> (Circuit, usize) {
+/// A circuit with a rule's left side in it, crossed where the mask says so, and the reference of its last gate. So many holes of a
+/// hundred are constants for certain, others now and then.
+fn planted(random: &mut Random, rule: &Rule, mask: u32, constants: usize) -> (Circuit, usize) {
     let inputs = random.between(0, 8);
     let first = CONSTANTS + inputs;
     let mut gates = any_gates(random, first);
     let mut names = vec![0, 1];
     let below = first + gates.len();
-    names.extend((0..rule.holes).map(|_| random.below(below)));
+    for _ in 0..rule.holes {
+        let end = if random.chance(constants) {
+            CONSTANTS
+        } else {
+            below
+        };
+        names.push(random.below(end));
+    }
     for (index, gate) in rule.left.iter().enumerate() {
         let gate = gate.renamed(&names);
         names.push(first + gates.len());

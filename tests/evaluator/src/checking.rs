@@ -1,6 +1,6 @@
-//! Checks any register program against 01, Register program, and 02, 2026-01
-//! and 2026-03, whichever free registers it takes and in whichever order it
-//! loads: these are judged by [`crate::discipline`].
+//! Checks any register program against 01, Register program, and 02, 2026-01,
+//! 2026-03 and 2026-06, whichever free registers it takes and in whichever order
+//! it loads: these are judged by [`crate::discipline`].
 
 use std::collections::{BTreeSet, HashMap};
 

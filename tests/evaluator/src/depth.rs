@@ -1,8 +1,8 @@
 //! Depth and critical count (01, Depth and critical count; 003, section 2.1;
-//! 02, 2026-01 and 2026-04).
+//! 02, 2026-01, 2026-04 and 2026-06).
 
 use crate::circuit::Circuit;
-use crate::gates::{Kind, CONSTANTS};
+use crate::gates::{Gate, CONSTANTS};
 use crate::lines::lines_of_table;
 use crate::refusal::{Answer, CIRCUIT};
 
@@ -19,7 +19,8 @@ pub fn measure(circuit: &[u32]) -> Answer<Pair> {
     Ok(pair(&Circuit::checked(&lines)?))
 }
 
-/// D and N: N counts live ANDs whose depth and above make up D.
+/// D and N: N counts live ANDs whose depth and above make up D, but for those
+/// that count as an XOR does.
 pub fn pair(circuit: &Circuit) -> Pair {
     let depths = depths(circuit);
     let largest = circuit.outputs.iter().map(|&output| depths[output]).max();
@@ -27,7 +28,7 @@ pub fn pair(circuit: &Circuit) -> Pair {
     let live = circuit.live();
     let mut paths = Paths::new(circuit);
     let critical = (circuit.first_gate()..circuit.references())
-        .filter(|&v| live[v] && circuit.gate(v).map(|gate| gate.kind) == Some(Kind::And))
+        .filter(|&v| live[v] && circuit.gate(v).is_some_and(Gate::counts))
         .filter(|&v| paths.above(v).map(|above| depths[v] + above) == Some(depth))
         .count() as u32;
     Pair { depth, critical }
@@ -41,7 +42,7 @@ pub fn depths(circuit: &Circuit) -> Vec<u32> {
     let mut depths = vec![0; CONSTANTS];
     depths.extend(circuit.starting_levels());
     for gate in &circuit.gates {
-        let own = gate.kind.ands();
+        let own = u32::from(gate.counts());
         let larger = depths[gate.left].max(depths[gate.right]);
         depths.push(own + larger);
     }
@@ -65,7 +66,7 @@ impl Paths<'_> {
     }
 
     /// The most ANDs, v not counted, on a path from v up to an output; none if
-    /// no path leads to one.
+    /// no path leads to one. Such as count as an XOR does are walked through.
     fn above(&mut self, v: usize) -> Option<u32> {
         if let Some(known) = self.known[v] {
             return known;
@@ -73,7 +74,7 @@ impl Paths<'_> {
         let ends_here = self.circuit.outputs.contains(&v);
         let mut most = ends_here.then_some(0);
         for user in self.users[v].clone() {
-            let own = self.circuit.gates[user].kind.ands();
+            let own = u32::from(self.circuit.gates[user].counts());
             let through = self.above(self.circuit.first_gate() + user);
             most = most.max(through.map(|beyond| own + beyond));
         }

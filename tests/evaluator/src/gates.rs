@@ -46,11 +46,6 @@ impl Kind {
             Kind::And => left && right,
         }
     }
-
-    /// How many ANDs a gate of this kind is: 1 or 0.
-    pub fn ands(self) -> u32 {
-        u32::from(self == Kind::And)
-    }
 }
 
 impl Gate {
@@ -60,6 +55,14 @@ impl Gate {
 
     pub fn operands(self) -> [usize; 2] {
         [self.left, self.right]
+    }
+
+    /// Whether a circuit's gate counts for depth, above and N: an AND does,
+    /// unless an operand is reference 0 or 1 (02, 2026-06). What an operand
+    /// that is a gate comes to is not asked: it may well be constant.
+    pub fn counts(self) -> bool {
+        let is_constant = |&operand: &usize| operand < CONSTANTS;
+        self.kind == Kind::And && !self.operands().iter().any(is_constant)
     }
 
     pub fn swapped(self) -> Gate {

@@ -1,4 +1,4 @@
-//! The register machine (01, Register program; 02, 2026-01).
+//! The register machine (01, Register program; 02, 2026-01 and 2026-06).
 
 use std::collections::HashMap;
 
@@ -15,11 +15,19 @@ pub const LOAD: u32 = 4;
 /// Numbers in one instruction.
 pub const INSTRUCTION_NUMBERS: usize = 4;
 
-/// What a full register holds and an emit gives.
+/// What an emit gives.
 #[derive(Clone, Copy, Debug, PartialEq, Eq)]
 pub struct Value {
     pub bit: bool,
     pub level: u64,
+}
+
+/// What a full register holds: a value, and whether it is public (02,
+/// 2026-06).
+#[derive(Clone, Copy)]
+struct Content {
+    value: Value,
+    public: bool,
 }
 
 /// A run that ended early: the instruction at fault, from 0, and what was
@@ -35,7 +43,7 @@ struct Machine<'a> {
     inputs: &'a [u8],
     /// The starting level of each input.
     levels: &'a [u32],
-    registers: HashMap<u32, Value>,
+    registers: HashMap<u32, Content>,
     emitted: Vec<Value>,
 }
 
@@ -72,47 +80,65 @@ impl Machine<'_> {
         match *numbers {
             [LOAD, d, reference, 0] => self.write(d, self.source(reference)?),
             [XOR, d, a, b] => {
-                let (a, b) = (self.read(a)?, self.read(b)?);
-                let level = a.level.max(b.level);
-                let bit = a.bit ^ b.bit;
-                self.write(d, Value { bit, level })
+                let operands = [self.read(a)?, self.read(b)?];
+                let [a, b] = operands.map(|operand| operand.value);
+                self.write(d, result(a.bit ^ b.bit, a.level.max(b.level)))
             }
             [AND, d, a, b] => {
-                let (a, b) = (self.read(a)?, self.read(b)?);
-                let level = a.level.max(b.level) + 1;
-                let bit = a.bit & b.bit;
-                self.write(d, Value { bit, level })
+                let operands = [self.read(a)?, self.read(b)?];
+                let reads_public = operands.iter().any(|operand| operand.public);
+                let [a, b] = operands.map(|operand| operand.value);
+                let own = u64::from(!reads_public);
+                self.write(d, result(a.bit & b.bit, own + a.level.max(b.level)))
             }
             [EMIT, a, 0, 0] => {
-                self.emitted.push(self.read(a)?);
+                self.emitted.push(self.read(a)?.value);
                 Some(())
             }
             _ => None,
         }
     }
 
-    /// A constant at level 0 or an input at its starting level (02, 2026-01:
-    /// "the level of its load"); none for any other reference.
-    fn source(&self, reference: u32) -> Option<Value> {
+    /// A constant at level 0, which is public, or an input at its starting
+    /// level (02, 2026-01: "the level of its load"); none for any other
+    /// reference.
+    fn source(&self, reference: u32) -> Option<Content> {
         let Some(input) = (reference as usize).checked_sub(CONSTANTS) else {
             let bit = reference == 1;
-            return Some(Value { bit, level: 0 });
+            return Some(Content {
+                value: Value { bit, level: 0 },
+                public: true,
+            });
         };
         let bit = bit_of(*self.inputs.get(input)?);
         let level = u64::from(self.levels[input]);
-        Some(Value { bit, level })
+        Some(Content {
+            value: Value { bit, level },
+            public: false,
+        })
     }
 
-    /// A full register's value; registers not below the limit are never full.
-    fn read(&self, register: u32) -> Option<Value> {
+    /// What a full register holds; registers not below the limit are never
+    /// full.
+    fn read(&self, register: u32) -> Option<Content> {
         self.registers.get(&register).copied()
     }
 
-    fn write(&mut self, register: u32, value: Value) -> Option<()> {
+    /// Overwrites all that the register held, its being public too.
+    fn write(&mut self, register: u32, content: Content) -> Option<()> {
         if register >= self.limit {
             return None;
         }
-        self.registers.insert(register, value);
+        self.registers.insert(register, content);
         Some(())
+    }
+}
+
+/// What an operation puts into its register. It is never public, whatever it
+/// was made of: only a load makes a register so.
+fn result(bit: bool, level: u64) -> Content {
+    Content {
+        value: Value { bit, level },
+        public: false,
     }
 }

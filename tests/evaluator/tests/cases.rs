@@ -1,12 +1,18 @@
 //! The cases of the test program `cases`: what they cover, and that it is the
 //! evaluator that says what the program must print for them.
 
+mod common;
+
 use std::collections::{BTreeMap, BTreeSet};
 use std::fs;
 use std::path::PathBuf;
 
+use common::count_constant_sides;
 use evaluator::cases::printed;
-use evaluator::listing::LISTING_BYTES;
+use evaluator::circuit::Circuit;
+use evaluator::lines::lines_of_text;
+use evaluator::listing::{counted, LISTING_BYTES};
+use evaluator::refusal::{Answer, CIRCUIT};
 
 /// In at least so many cases each outcome of each call comes up.
 const LEAST: usize = 5;
@@ -147,6 +153,25 @@ fn every_outcome_of_every_call_comes_up_in_several_cases() {
     for (outcome, count) in counts {
         assert!(count >= LEAST, "{outcome:?} in {count} cases only");
     }
+}
+
+/// The circuits of the cases, as far as they are right ones.
+fn circuits() -> Vec<Circuit> {
+    let args = fs::read_to_string(folder().join("args")).expect("a file that names the cases");
+    let circuit = |name: &str| -> Answer<Circuit> {
+        let text = fs::read(folder().join("data").join(name)).unwrap_or_default();
+        Circuit::checked(&lines_of_text(counted(&text), CIRCUIT)?)
+    };
+    args.lines().step_by(3).flat_map(circuit).collect()
+}
+
+#[test]
+fn ands_with_constants_come_up_in_several_cases() {
+    let counts = count_constant_sides(circuits().into_iter());
+    assert!(
+        counts.iter().all(|&count| count >= LEAST as u32),
+        "{counts:?}"
+    );
 }
 
 #[test]

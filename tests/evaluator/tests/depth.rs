@@ -1,15 +1,15 @@
 //! Depths beside the equation of 003, section 2.1 (02, 2026-04), read here
-//! once more: from a circuit's lines, and from the last reference down.
+//! once more: from a circuit's lines, and from the last reference down. What a
+//! gate contributes is read once more too, with 02, 2026-06.
 
 mod common;
 
 use std::collections::BTreeMap;
 
-use common::{circuit_lines, BALANCED, CHAIN, ONE_TIMES};
+use common::{random_circuits, BALANCED, CHAIN, ONE_TIMES};
 use evaluator::circuit::Circuit;
 use evaluator::depth::{depths, pair};
 use evaluator::gates::closing_of;
-use evaluator::generator::case;
 use evaluator::lines::Line;
 use evaluator::starting::split_starting;
 
@@ -44,9 +44,11 @@ impl Graph<'_> {
         Some(self.gates[index as usize])
     }
 
-    /// 003's d: 1 for an AND, 0 for all else.
+    /// 003's d: 1 for an AND, 0 for all else, and by 02, 2026-06, for an AND
+    /// with 0 or 1 on one side or on both.
     fn d(&self, v: u32) -> u32 {
         match self.gate(v) {
+            Some([2, 0 | 1, _] | [2, _, 0 | 1]) => 0,
             Some([2, _, _]) => 1,
             _ => 0,
         }
@@ -114,7 +116,7 @@ fn has(lines: &[Line], expected: &[u32], depth: u32) {
 fn the_marked_examples_have_these_depths() {
     has(CHAIN, &[0, 0, 0, 0, 0, 0, 1, 2, 3], 3);
     has(BALANCED, &[0, 0, 0, 0, 0, 0, 1, 1, 2], 2);
-    has(ONE_TIMES, &[0, 0, 0, 1], 1);
+    has(ONE_TIMES, &[0, 0, 0, 0], 0);
 }
 
 #[test]
@@ -136,17 +138,37 @@ fn an_xor_adds_nothing() {
 }
 
 #[test]
-fn an_and_with_a_constant_adds_1() {
+fn an_and_with_a_constant_adds_nothing() {
     for constant in [0, 1] {
         let gates = [[2, constant, 2], [2, 3, constant], [2, constant, constant]];
         let lines = [&[[1, 3, 2]], &gates[..], &[[3, 4, 0], [3, 5, 0]]].concat();
-        has(&lines, &[0, 0, 0, 1, 2, 1], 2);
+        has(&lines, &[0; 6], 0);
+        // The same above a product.
+        let gates = [[2, 2, 2], [2, constant, 3], [2, 4, constant]];
+        let lines = [&[[1, 3, 1]], &gates[..], &[[3, 5, 0]]].concat();
+        has(&lines, &[0, 0, 0, 1, 1, 1], 1);
     }
     has(
         &[[0, 2, 1], [2, 0, 1], [2, 1, 2], [3, 3, 0]],
-        &[0, 0, 1, 2],
-        2,
+        &[0, 0, 0, 0],
+        0,
     );
+}
+
+#[test]
+fn an_and_of_gates_that_are_constant_adds_1() {
+    // 0⊕0, 1·1 and 2⊕2, each times itself, and the second times an input.
+    let gates = [
+        [1, 0, 0],
+        [2, 1, 1],
+        [1, 2, 2],
+        [2, 3, 3],
+        [2, 4, 4],
+        [2, 5, 5],
+        [2, 2, 4],
+    ];
+    let lines = [&[[1, 7, 1]], &gates[..], &[[3, 9, 0]]].concat();
+    has(&lines, &[0, 0, 0, 0, 0, 0, 1, 1, 1, 1], 1);
 }
 
 #[test]
@@ -184,7 +206,8 @@ fn dead_gates_have_depths_without_a_say_in_d() {
 
 #[test]
 fn inputs_have_their_starting_levels() {
-    // Inputs 2 and 4 arrive at 3 and 255; the product 5 at 1.
+    // Inputs 2 and 4 arrive at 3 and 255; the product 5 is at 1, and 7, which is
+    // 6·0, where 6 is.
     let starting = [[4, 2, 3], [4, 4, 255]];
     let gates = [
         [2, 3, 3],
@@ -195,22 +218,17 @@ fn inputs_have_their_starting_levels() {
         [1, 1, 4],
     ];
     let lines = [&[[3, 6, 1]], &starting[..], &gates[..], &[[3, 9, 0]]].concat();
-    has(&lines, &[0, 0, 3, 0, 255, 1, 3, 4, 4, 256, 255], 256);
+    has(&lines, &[0, 0, 3, 0, 255, 1, 3, 3, 4, 256, 255], 256);
     has(&[[1, 0, 1], [4, 2, 7], [3, 2, 0]], &[0, 0, 7], 7);
     has(&[[1, 0, 1], [4, 2, 7], [3, 1, 0]], &[0, 0, 7], 0);
 }
 
-/// The lines of a random case's circuit, if it is a right one.
-fn random_circuit(number: u64) -> Option<Vec<Line>> {
-    let lines = circuit_lines(&case(6, number)).ok()?;
-    Circuit::checked(&lines).is_ok().then_some(lines)
-}
-
 #[test]
 fn random_circuits_have_the_depths_of_the_equation() {
-    let circuits: Vec<Vec<Line>> = (1..=2000).flat_map(random_circuit).collect();
-    assert!(circuits.len() > 1000, "{}", circuits.len());
-    for lines in circuits {
-        depths_by_equation(&lines);
+    let mut count = 0;
+    for circuit in random_circuits(6, 2000) {
+        depths_by_equation(&circuit.lines());
+        count += 1;
     }
+    assert!(count > 1000, "{count}");
 }

@@ -10,11 +10,9 @@ use evaluator::checking::check_program;
 use evaluator::circuit::{Circuit, MOST_GATES};
 use evaluator::discipline::check_discipline;
 use evaluator::gates::{Gate, Kind};
-use evaluator::generator::case;
 use evaluator::lines::Line;
 use evaluator::machine::{run, Instruction, Value, EMIT, LOAD};
 use evaluator::random::Random;
-use evaluator::refusal::Answer;
 use evaluator::translation::Translated;
 
 /// 3·2 of two inputs.
@@ -405,14 +403,6 @@ fn of_all_right_programs_one_follows_the_discipline() {
 
 const CASES: u64 = 300;
 
-fn random_circuits() -> impl Iterator<Item = Circuit> {
-    let circuit = |number| -> Answer<Circuit> {
-        let lines = circuit_lines(&case(6, number))?;
-        Circuit::checked(&lines)
-    };
-    (1..=CASES).flat_map(circuit)
-}
-
 /// The table, the need and the program of a random circuit.
 struct Sample {
     table: Vec<u32>,
@@ -425,7 +415,7 @@ fn program_of(circuit: &Circuit) -> (Translated, Vec<u32>) {
 }
 
 fn samples() -> impl Iterator<Item = Sample> {
-    random_circuits().map(|circuit| {
+    random_circuits(6, CASES).map(|circuit| {
         let (translated, numbers) = program_of(&circuit);
         Sample {
             table: circuit.lines().concat(),
@@ -540,7 +530,7 @@ fn dead_gates_in_random_circuits_change_nothing() {
     const DEAD: usize = 3;
     let mut random = Random::new(6, 3);
     let mut count = 0;
-    for circuit in random_circuits() {
+    for circuit in random_circuits(6, CASES) {
         if circuit.gates.len() + DEAD > MOST_GATES as usize {
             continue;
         }

@@ -1,4 +1,4 @@
-//! The marked examples of 01.
+//! The marked examples of 01, of which 02, 2026-06, changes (g).
 
 mod common;
 
@@ -18,6 +18,11 @@ const SHOWN: &str = "     4     3     1
      7     1     1
      8     1     0
 ";
+
+const ZERO: Pair = Pair {
+    depth: 0,
+    critical: 0,
+};
 
 #[test]
 fn a_the_chain_is_rebalanced() {
@@ -94,20 +99,17 @@ fn g_the_mask_decides() {
         &table(&[&[[1, 3, 0]], &[[1, 3, 1]]]),
     );
     let answer = call.answer.expect("well-formed tables");
-    assert_eq!(call.verdicts[..2], [4, 0]);
-    assert_eq!((answer.old.depth, answer.new.depth), (1, 0));
-    assert_eq!((answer.kept, answer.lines), (1, 2));
-    assert_eq!(call.result[..6], [1, 0, 1, 3, 2, 0]);
+    // The second matches, but there is no depth to be lowered.
+    assert_eq!(call.verdicts[..2], [4, 6]);
+    assert_eq!((answer.old, answer.new), (ZERO, ZERO));
+    assert_eq!((answer.kept, answer.lines), (0, 3));
+    assert_eq!(call.result[..9], ONE_TIMES.concat());
 }
 
 #[test]
 fn h_a_constant_output_needs_one_register() {
     let circuit = [0, 0, 1, 3, 1, 0];
-    let zero = Pair {
-        depth: 0,
-        critical: 0,
-    };
-    assert_eq!(measure(&circuit), Ok(zero));
+    assert_eq!(measure(&circuit), Ok(ZERO));
     let (translated, program) = call_translate(&circuit, 1).expect("one register is enough");
     assert_eq!((translated.instructions, translated.need), (2, 1));
     assert_eq!(program, [4, 0, 1, 0, 3, 0, 0, 0]);

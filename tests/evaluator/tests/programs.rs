@@ -33,7 +33,7 @@ fn fault_at(program: &[[u32; 4]]) -> Option<usize> {
 #[test]
 fn the_machine_computes_bits_and_levels() {
     let program = [
-        [4, 0, 1, 0],
+        [4, 0, 2, 0],
         [4, 1, 2, 0],
         [2, 1, 0, 1],
         [3, 1, 0, 0],

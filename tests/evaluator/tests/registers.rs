@@ -5,12 +5,9 @@ mod common;
 
 use common::*;
 use evaluator::checking::{check_program, check_registers};
-use evaluator::circuit::Circuit;
-use evaluator::generator::case;
 use evaluator::holding::Holding;
-use evaluator::lines::{lines_of_text, Line};
+use evaluator::lines::Line;
 use evaluator::machine::{run, Value};
-use evaluator::refusal::{Answer, CIRCUIT};
 use evaluator::registers::registers_written;
 
 /// The circuit has that need; its program writes the registers below the need
@@ -77,20 +74,15 @@ fn constants_take_registers_as_inputs_do() {
     writes(&[[1, 2, 1], [2, 2, 2], [1, 0, 1], [3, 3, 0]], 1);
 }
 
-/// The lines of a random circuit and its need by the values held.
-fn random_circuit(number: u64) -> Answer<(Vec<Line>, u32)> {
-    let lines = lines_of_text(&case(5, number).circuit, CIRCUIT)?;
-    let need = Holding::of(&Circuit::checked(&lines)?.trimmed()).need();
-    Ok((lines, need as u32))
-}
-
 #[test]
 fn random_circuits_write_their_need() {
-    let circuits: Vec<(Vec<Line>, u32)> = (1..=400).flat_map(random_circuit).collect();
-    assert!(circuits.len() > 200, "{}", circuits.len());
-    for (circuit, need) in circuits {
-        writes(&circuit, need);
+    let mut count = 0;
+    for circuit in random_circuits(5, 400) {
+        let need = Holding::of(&circuit.trimmed()).need();
+        writes(&circuit.lines(), need as u32);
+        count += 1;
     }
+    assert!(count > 200, "{count}");
 }
 
 /// A program of [`CHAIN`], which runs as it should but for its registers, is

@@ -5,7 +5,7 @@ mod common;
 use common::*;
 use evaluator::checking::check_program;
 use evaluator::circuit::CIRCUIT_NUMBERS;
-use evaluator::depth::{measure, Pair};
+use evaluator::depth::measure;
 use evaluator::evaluation::evaluate;
 use evaluator::lines::{text_of, Line, LARGEST};
 use evaluator::listing::{listing, program_output, LISTING_BYTES};
@@ -24,11 +24,6 @@ fn circuit(head: Line, starting: &[Line], rest: &[Line]) -> Vec<Line> {
 /// (2·3)⊕4 of three inputs with such starting lines.
 fn product_and_sum(starting: &[Line]) -> Vec<Line> {
     circuit([3, 2, 1], starting, &[[2, 2, 3], [1, 5, 4], [3, 6, 0]])
-}
-
-fn pair_of(lines: &[Line]) -> (u32, u32) {
-    let Pair { depth, critical } = measure(&lines.concat()).expect("a well-formed circuit");
-    (depth, critical)
 }
 
 /// The refusal of each call that takes a circuit, the other tables and all
@@ -235,8 +230,9 @@ fn an_input_s_depth_is_its_starting_level() {
 
 #[test]
 fn constants_start_at_0() {
-    let lines = circuit([1, 2, 1], &[[4, 2, 9]], &[[2, 0, 1], [2, 3, 1], [3, 4, 0]]);
-    assert_eq!(pair_of(&lines), (2, 2));
+    // 0·1, which is a gate, times itself.
+    let lines = circuit([1, 2, 1], &[[4, 2, 9]], &[[2, 0, 1], [2, 3, 3], [3, 4, 0]]);
+    assert_eq!(pair_of(&lines), (1, 1));
 }
 
 #[test]

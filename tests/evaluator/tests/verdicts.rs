@@ -3,7 +3,6 @@
 mod common;
 
 use common::*;
-use evaluator::depth::{measure, Pair};
 use evaluator::evaluation::evaluate;
 use evaluator::gates::{Gate, Kind};
 use evaluator::generator::{spoiled, stock};
@@ -13,11 +12,6 @@ use evaluator::matching::match_site;
 use evaluator::rules::{judge, Rule};
 
 const HUGE: u32 = u32::MAX;
-
-fn pair_of(lines: &[Line]) -> (u32, u32) {
-    let Pair { depth, critical } = measure(&lines.concat()).expect("a well-formed circuit");
-    (depth, critical)
-}
 
 /// A chain of so many ANDs of one input.
 fn chain(gates: u32) -> Vec<Line> {
@@ -103,20 +97,20 @@ fn verdict_6_compares_with_the_pair_just_before() {
 
 #[test]
 fn a_site_sees_the_circuit_as_it_then_is() {
-    // 2·2, that times 1, that times 1: each site takes one gate away.
-    let circuit = [[1, 3, 1], [2, 2, 2], [2, 3, 1], [2, 4, 1], [3, 5, 0]];
-    let sites = [[1, 4, 0], [1, 4, 0], [1, 4, 0], [2, 3, 0]];
-    let (verdicts, circuit) = verdicts_of(&circuit, &[TIMES_ONE, SQUARE], &sites);
+    // 2·2, its square and the square of that: each site takes one gate away.
+    let circuit = [[1, 3, 1], [2, 2, 2], [2, 3, 3], [2, 4, 4], [3, 5, 0]];
+    let sites = [[1, 4, 0], [1, 4, 0], [1, 4, 0], [1, 3, 0]];
+    let (verdicts, circuit) = verdicts_of(&circuit, &[SQUARE], &sites);
     assert_eq!(verdicts, [0, 0, 3, 0]);
     assert_eq!(circuit, [1, 0, 1, 3, 2, 0]);
 }
 
 #[test]
 fn a_lower_count_is_enough() {
-    // Two products of depth 1, one of them with 1.
-    let circuit = [[2, 2, 2], [2, 2, 3], [2, 2, 1], [3, 4, 0], [3, 5, 0]];
+    // Two products of depth 1, one of them a square.
+    let circuit = [[2, 2, 2], [2, 2, 3], [2, 2, 2], [3, 4, 0], [3, 5, 0]];
     assert_eq!(pair_of(&circuit), (1, 2));
-    let (verdicts, circuit) = verdicts_of(&circuit, &[TIMES_ONE], &[[1, 5, 0]]);
+    let (verdicts, circuit) = verdicts_of(&circuit, &[SQUARE], &[[1, 5, 0]]);
     assert_eq!(verdicts, [0]);
     assert_eq!(circuit, [2, 1, 2, 2, 2, 3, 3, 4, 0, 3, 2, 0]);
 }
@@ -131,7 +125,7 @@ fn an_empty_list_hands_back_the_trimmed_circuit() {
 
 #[test]
 fn dead_gates_count_nowhere() {
-    let dead = [[1, 3, 1], [2, 2, 2], [2, 3, 3], [2, 2, 1], [3, 5, 0]];
+    let dead = [[1, 3, 1], [2, 2, 2], [2, 3, 3], [2, 2, 2], [3, 5, 0]];
     assert_eq!(pair_of(&dead), (1, 1));
 }
 
@@ -153,7 +147,7 @@ fn critical_gates_are_counted_and_not_paths() {
 fn a_gate_that_is_an_output_and_used_counts_its_longest_path() {
     let circuit = [[2, 2, 2], [2, 2, 3], [2, 4, 3], [3, 4, 0], [3, 5, 0]];
     assert_eq!(pair_of(&circuit), (2, 2));
-    assert_eq!(pair_of(&[[0, 1, 1], [2, 0, 1], [3, 2, 0]]), (1, 1));
+    assert_eq!(pair_of(&[[1, 1, 1], [2, 2, 2], [3, 3, 0]]), (1, 1));
 }
 
 #[test]

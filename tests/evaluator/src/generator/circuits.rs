@@ -67,10 +67,14 @@ impl Growing {
         CONSTANTS + self.inputs + self.gates.len()
     }
 
-    /// Some reference, more often a late one than an early one.
+    /// Some reference, more often a late one than an early one; now and then a
+    /// constant, in large circuits too: by it an AND costs no level (02,
+    /// 2026-06).
     fn some_reference(&self, random: &mut Random) -> usize {
         let recent = self.next().min(5);
-        if random.chance(50) {
+        if random.chance(10) {
+            random.below(CONSTANTS)
+        } else if random.chance(50) {
             self.next() - 1 - random.below(recent)
         } else {
             random.below(self.next())

@@ -10,7 +10,7 @@ const A: Kind = Kind::And;
 type Side = &'static [(Kind, usize, usize)];
 
 /// Sound rules: holes, left gates, right gates, closing reference.
-const STOCK: [(usize, Side, Side, usize); 17] = [
+const STOCK: [(usize, Side, Side, usize); 19] = [
     // ((v·w)·y)·z to (v·w)·(y·z)
     (
         4,
@@ -46,6 +46,13 @@ const STOCK: [(usize, Side, Side, usize); 17] = [
         &[(X, 3, 4), (A, 2, 5)],
         6,
     ),
+    // (v⊕w)·y to (v·y)⊕(w·y), which gains where v and w are constants
+    (
+        3,
+        &[(X, 2, 3), (A, 5, 4)],
+        &[(A, 2, 4), (A, 3, 4), (X, 5, 6)],
+        7,
+    ),
     // (v·w)·(v·y) to v·(w·y)
     (
         3,
@@ -65,6 +72,8 @@ const STOCK: [(usize, Side, Side, usize); 17] = [
     (1, &[(X, 2, 1), (A, 2, 3)], &[], 0),
     // v·v to v
     (1, &[(A, 2, 2)], &[], 2),
+    // v·v to v·1
+    (1, &[(A, 2, 2)], &[(A, 2, 1)], 3),
     // v·1 to v
     (1, &[(A, 2, 1)], &[], 2),
     // v·0 to 0

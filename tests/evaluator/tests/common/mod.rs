@@ -2,8 +2,10 @@
 #![allow(dead_code)]
 
 use evaluator::checking::check_registers;
-use evaluator::circuit::CIRCUIT_NUMBERS;
-use evaluator::generator::Case;
+use evaluator::circuit::{Circuit, CIRCUIT_NUMBERS};
+use evaluator::depth::{measure, Pair};
+use evaluator::gates::{Kind, CONSTANTS};
+use evaluator::generator::{case, Case};
 use evaluator::lines::{lines_of_text, text_of, Line};
 use evaluator::listing::counted;
 use evaluator::lists::list_lines;
@@ -66,6 +68,46 @@ pub fn text(parts: &[&[Line]]) -> Vec<u8> {
 /// The lines of a random case's circuit.
 pub fn circuit_lines(case: &Case) -> Answer<Vec<Line>> {
     lines_of_text(counted(&case.circuit), CIRCUIT)
+}
+
+/// The circuits of the first so many random cases of a seed, as far as they are
+/// right ones.
+pub fn random_circuits(seed: u64, cases: u64) -> impl Iterator<Item = Circuit> {
+    let circuit = move |number| Circuit::checked(&circuit_lines(&case(seed, number))?);
+    (1..=cases).flat_map(circuit)
+}
+
+/// How many of the circuits have, among what is live, an AND with a constant on
+/// its left alone, on its right alone, on both sides, and at an output (02,
+/// 2026-06).
+pub fn count_constant_sides(circuits: impl Iterator<Item = Circuit>) -> [u32; 4] {
+    let mut counts = [0; 4];
+    for circuit in circuits {
+        for (count, found) in counts.iter_mut().zip(constant_sides(&circuit.trimmed())) {
+            *count += u32::from(found);
+        }
+    }
+    counts
+}
+
+fn constant_sides(trimmed: &Circuit) -> [bool; 4] {
+    let mut found = [false; 4];
+    for (own, gate) in (trimmed.first_gate()..).zip(&trimmed.gates) {
+        let [left, right] = gate.operands().map(|operand| operand < CONSTANTS);
+        if gate.kind == Kind::And && (left || right) {
+            found[0] |= !right;
+            found[1] |= !left;
+            found[2] |= left && right;
+            found[3] |= trimmed.outputs.contains(&own);
+        }
+    }
+    found
+}
+
+/// D and N of a circuit's lines.
+pub fn pair_of(lines: &[Line]) -> (u32, u32) {
+    let Pair { depth, critical } = measure(&lines.concat()).expect("a well-formed circuit");
+    (depth, critical)
 }
 
 /// A call of rewrite: the answer, the result's numbers and the verdicts.

@@ -13,17 +13,17 @@ use Rattle.circuit.proofs.critical.critical_here.Tie as tie
 
 -- what the second test says of a live gate
 tested : (c : tie.After-is-counted)
-    → (isCounted (c .before .before .args .kind) && (ltb 0 (c .before .before .args .reverse) && eqb (c .before .before .args .depth + (c .before .before .args .reverse - 1)) (c .before .before .args .deepest)))
+    → (isCounted (c .before .before .args .g) && (ltb 0 (c .before .before .args .reverse) && eqb (c .before .before .args .depth + (c .before .before .args .reverse - 1)) (c .before .before .args .deepest)))
     ≡ (c .is-counted .result && eqb (c .before .before .args .depth + (c .before .before .args .reverse - 1)) (c .before .before .args .deepest))
 tested c =
     let s = c .before .before in
     let on = eqb (s .args .depth + (s .args .reverse - 1)) (s .args .deepest) in
-    critical-live (isCounted (s .args .kind)) on (s .args .reverse) (search needs) ∙ ap (λ b. b && on) (sym (c .is-counted .ensures))
+    critical-live (isCounted (s .args .g)) on (s .args .reverse) (search needs) ∙ ap (λ b. b && on) (sym (c .is-counted .ensures))
 
 returns : tie.Need-returns
 returns c =
     let s = c .before in
-    (sym (first-false 1 0 (critical-dead (isCounted (s .args .kind)) (eqb (s .args .depth + (s .args .reverse - 1)) (s .args .deepest)) (s .args .reverse) (c .if1 .taken))), omega arith)
+    (sym (first-false 1 0 (critical-dead (isCounted (s .args .g)) (eqb (s .args .depth + (s .args .reverse - 1)) (s .args .deepest)) (s .args .reverse) (c .if1 .taken))), omega arith)
 
 returns-2 : tie.Need-returns-2
 returns-2 c = (sym (first-true 1 0 (tested (c .before) ∙ c .if2 .taken)), omega arith)

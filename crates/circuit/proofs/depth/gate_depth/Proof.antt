@@ -8,12 +8,12 @@ use Rattle.circuit.proofs.depth.gate_depth.Statement.{statement}
 use Rattle.circuit.proofs.depth.gate_depth.Tie as tie
 
 add-result : tie.Need-add-result
-add-result c = omega (arith, contribution-le (c .before .before .args .kind))
+add-result c = omega (arith, contribution-le (c .before .before .args .g))
 
 returns : tie.Need-returns
 returns c =
     let g = c .before .before .args in
-    ap₂ _+_ (c .before .contribution .ensures) (c .larger .ensures) ∙ sym (plus-contribution (g .kind) (max (g .a) (g .b)))
+    ap₂ _+_ (c .before .contribution .ensures) (c .larger .ensures) ∙ sym (plus-contribution (g .g) (max (g .a) (g .b)))
 
 pub gate-depth-spec : {M : Type 1} → statement M
 gate-depth-spec =

@@ -14,7 +14,7 @@ returns c =
 returns-2 : tie.Need-returns-2
 returns-2 c =
     let a = c .before .before .before .before .before .before .before .before .before .before .before .before .before .before .before .args in
-    raise-both (a .own) (a .g) (a .u .now) _ _ _ (c .before .before .before .before .before .before .before .before .before .before .before .before .if1 .left) (c .before .before .before .before .before .before .before .before .before .before .plus-and .ensures) (c .before .before .before .before .before .before .before .raise-place .ensures) (c .before .before .raise-place2 .ensures)
+    raise-both (a .own) (a .g) (a .u .now) _ _ _ (c .before .before .before .before .before .before .before .before .before .before .before .before .if1 .left) (c .before .before .before .before .before .before .before .before .before .before .plus-counted .ensures) (c .before .before .before .before .before .before .before .raise-place .ensures) (c .before .before .raise-place2 .ensures)
 
 pub raise-operands-spec : {M : Type 1} → statement M
 raise-operands-spec =
@@ -23,9 +23,9 @@ raise-operands-spec =
     (λ c. search needs)  -- mul-if1
     (λ c. search needs)  -- slice-read-if1
     returns
-    (λ c. search needs)  -- mul-plus-and
-    (λ c. search needs)  -- slice-read-plus-and
-    (λ c κs. search needs)  -- plus-and-requires
+    (λ c. search needs)  -- mul-plus-counted
+    (λ c. search needs)  -- slice-read-plus-counted
+    (λ c κs. search needs)  -- plus-counted-requires
     (λ c. search needs)  -- cast-raise-place
     (λ c κs. search needs)  -- raise-place-requires
     (λ c. search needs)  -- cast-raise-place-2
