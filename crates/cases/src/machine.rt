@@ -14,11 +14,6 @@ pub const MAX_LIMIT: u32 = MAX_REGISTERS as u32;
 // What stands for an empty register, and for the bit of a reference that is neither a constant nor an input.
 const NOTHING: u8 = 2;
 
-// Whether a register is public (02, 2026-06): loaded from a constant, and not overwritten since.
-const PUBLIC: u8 = 1;
-
-const SECRET: u8 = 0;
-
 // The bit of a constant or an input.
 fn start_bit(inputs: &[u8], reference: u32) -> u8 {
     if reference < CONSTANTS {
@@ -46,21 +41,14 @@ fn start_level(circuit: &[u32], reference: u32) -> u32 {
     0
 }
 
-fn start_mark(reference: u32) -> u8 {
-    if reference < CONSTANTS {
-        PUBLIC
-    } else {
-        SECRET
-    }
-}
-
 fn gate_bit(kind: u32, x: u8, y: u8) -> u8 {
     if kind == 2 { x & y } else { x ^ y }
 }
 
-fn gate_level(kind: u32, a: u32, b: u32, public: bool) -> u32 {
+// A public operand spares an AND its level (02, 2026-06).
+fn gate_level(kind: u32, a: u32, b: u32, reads_public: bool) -> u32 {
     let level = if a < b { b } else { a };
-    if (kind == 2) & !public {
+    if (kind == 2) & !reads_public {
         // Levels stay far below 4,096, as no circuit is so deep: the test only spares a proof.
         if level < 4096 {
             return level + 1;
@@ -72,24 +60,24 @@ fn gate_level(kind: u32, a: u32, b: u32, public: bool) -> u32 {
 fn load(
     bits: &mut [u8; MAX_REGISTERS],
     levels: &mut [u32; MAX_REGISTERS],
-    marks: &mut [u8; MAX_REGISTERS],
+    public: &mut [bool; MAX_REGISTERS],
     d: usize,
     bit: u8,
     level: u32,
-    mark: u8,
+    mark: bool,
 ) -> bool
     requires { ⌜ d < maxRegisters ⌝ }
 {
     bits[d] = bit;
     levels[d] = level;
-    marks[d] = mark;
+    public[d] = mark;
     bit != NOTHING
 }
 
 fn operate(
     bits: &mut [u8; MAX_REGISTERS],
     levels: &mut [u32; MAX_REGISTERS],
-    marks: &mut [u8; MAX_REGISTERS],
+    public: &mut [bool; MAX_REGISTERS],
     kind: u32,
     d: usize,
     a: usize,
@@ -101,11 +89,10 @@ fn operate(
 {
     let x = bits[a];
     let y = bits[b];
-    let public = (marks[a] == PUBLIC) | (marks[b] == PUBLIC);
-    let level = gate_level(kind, levels[a], levels[b], public);
+    let level = gate_level(kind, levels[a], levels[b], public[a] | public[b]);
     bits[d] = gate_bit(kind, x, y);
     levels[d] = level;
-    marks[d] = SECRET;
+    public[d] = false;
     (x != NOTHING) & (y != NOTHING)
 }
 
@@ -121,7 +108,7 @@ fn emit(bits: &[u8; MAX_REGISTERS], levels: &[u32; MAX_REGISTERS], a: usize) -> 
 fn perform(
     bits: &mut [u8; MAX_REGISTERS],
     levels: &mut [u32; MAX_REGISTERS],
-    marks: &mut [u8; MAX_REGISTERS],
+    public: &mut [bool; MAX_REGISTERS],
     circuit: &[u32],
     inputs: &[u8],
     limit: u32,
@@ -149,11 +136,11 @@ fn perform(
             load(
                 bits,
                 levels,
-                marks,
+                public,
                 first as usize,
                 start_bit(inputs, second),
                 start_level(circuit, second),
-                start_mark(second),
+                second < CONSTANTS,
             )
         }
         1..=2 => {
@@ -166,7 +153,7 @@ fn perform(
             operate(
                 bits,
                 levels,
-                marks,
+                public,
                 opcode,
                 first as usize,
                 second as usize,
@@ -184,7 +171,7 @@ pub fn print_run(circuit: &[u32], program: &[u32], limit: u32, inputs: &[u8]) {
     }
     let mut bits = [NOTHING; MAX_REGISTERS];
     let mut levels = [0u32; MAX_REGISTERS];
-    let mut marks = [SECRET; MAX_REGISTERS];
+    let mut public = [false; MAX_REGISTERS];
     let count = program.len() / 4;
     let mut i: usize = 0;
     while i < count {
@@ -192,7 +179,7 @@ pub fn print_run(circuit: &[u32], program: &[u32], limit: u32, inputs: &[u8]) {
         if !perform(
             &mut bits,
             &mut levels,
-            &mut marks,
+            &mut public,
             circuit,
             inputs,
             limit,

@@ -10,12 +10,13 @@ use Rattle.lines.specs.Calls.{over}
 use Rattle.circuit.specs.Circuit.{Gate, maxDepth, constants, firstGate, noGate}
 use Rattle.circuit.specs.Table.{inputs, gates, outputs, refs, starts, lineAt, startOf, gateLines, decode}
 use Rattle.circuit.specs.WellFormed.{WellFormed}
-use Rattle.circuit.specs.Depth.{plusCounted, gateDepth, setLevels, startLevels, depths, depth, largest, circuitDepth}
+use Rattle.circuit.specs.Depth.{gateDepth, setLevels, startLevels, depths, depth, largest, circuitDepth}
 use Rattle.circuit.proofs.TableLaws.{starts-length, start-step, gate-next, gates-length, output-next, outputs-length, refs-decode}
 use Rattle.circuit.proofs.RefusalLaws.{left-below, right-below, output-below}
 use Rattle.circuit.proofs.BoundLaws.{depth-le, depths-length}
+use Rattle.circuit.proofs.MultiplicativeDepthLaws.{depth-read}
 use Rattle.circuit.proofs.StartLaws.{Right, right-at, start-length, levels-length, levels-front}
-use Rattle.circuit.proofs.LoopLaws.{value-read, largest-more, largest-end}
+use Rattle.circuit.proofs.LoopLaws.{largest-more, largest-end}
 use Rattle.lists.proofs.Each.{each-begin, FilledOver, filled-over-from, filled-over-more, filled-over-read, filled-over-all}
 use Rattle.circuit.proofs.BufferLaws.{over-take, over-over}
 
@@ -77,8 +78,7 @@ module _ (t d₀ : List ℕ) where
         let x = getD (decode t .gates) i noGate in
         rw n
         (filled-over-more gateDepth (gateLines t) (startLevels (decode t)) (firstGate (inputs t)) d₀ d i f v x (gate-next t i h) (omega arith)
-        (e ∙ ap (λ y. gateDepth y d) q
-        ∙ value-read (λ k a b. plusCounted x (max a b)) 0 x (firstGate (inputs t) + i) d (left-below t w i h) (right-below t w i h)))
+        (e ∙ ap (λ y. gateDepth y d) q ∙ sym (depth-read x (firstGate (inputs t) + i) d (left-below t w i h) (right-below t w i h))))
 
     pub depths-all : i ≤ gates t → gates t ≤ i → d ≡ over (depths (decode t)) d₀
     unfolding depths

@@ -1,11 +1,12 @@
 -- Depth by source 003's equation: a gate's contribution plus the larger of its operands' depths. Assumes nothing.
 use mathlib.Core.Path.{_≡_, refl, sym, ap₂, _∙_}
 use mathlib.Core.Bool.{Bool, true, false, true≢false}
+use mathlib.Core.List.{List}
 use Prim.Native.Nat.{ℕ, zero, suc, _+_, _-_, _≤_, _<_, max}
 use native.Mathlib.Decide.{decLt}
 use native.Mathlib.Nat.{not-suc-le-zero}
 use native.Mathlib.Omega.{arith}
-use lib.ListN.{getD, List·getD-eq-default}
+use lib.ListN.{take, getD, List·getD-eq-default}
 use lib.Seq.{getD-take}
 use Rattle.lists.specs.First.{first}
 use Rattle.lists.proofs.First.{first-either}
@@ -29,6 +30,10 @@ plus-contribution g x = go (isCounted g)
     go true = omega arith
     go false = omega arith
 
+-- a gate's depth from an array whose first k places are known
+pub depth-read : (g : Gate) (k : ℕ) (d : List ℕ) → g .left < k → g .right < k → gateDepth g (take k d) ≡ gateDepth g d
+depth-read g k d l r = ap₂ (λ a b. plusCounted g (max a b)) (getD-take k d (g .left) 0 l) (getD-take k d (g .right) 0 r)
+
 pub depth-of-gate : DepthOfGate
 unfolding depths
 depth-of-gate c low v e =
@@ -36,8 +41,7 @@ depth-of-gate c low v e =
     let g = gateAt c v in
     let (l, r) = operands-below-gate c v e low in
     each-value gateDepth (c .gates) (startLevels c) v (v - n) noGate 0 (omega (arith, start-length c, gate-from c v e)) (omega (arith, gate-from c v e, gate-to c v e))
-    ∙ ap₂ (λ a b. plusCounted g (max a b)) (getD-take v (depths c) (g .left) 0 l) (getD-take v (depths c) (g .right) 0 r)
-    ∙ plus-contribution g (max (depth c (g .left)) (depth c (g .right)))
+    ∙ depth-read g v (depths c) l r ∙ plus-contribution g (max (depth c (g .left)) (depth c (g .right)))
 
 -- what is no gate has its starting level, and beyond the circuit both are 0
 pub depth-of-start : (c : Circuit) (v : ℕ) → isGate c v ≡ false → getD (startLevels c) v 0 ≡ depth c v

@@ -13,11 +13,11 @@ use lib.ListN.{length, drop, getD, drop-of-length-le}
 use borrow.Author.Tests.{eq-eqb, ne-eqb, le-ltb}
 use Rattle.lists.specs.First.{first}
 use Rattle.lists.proofs.Each.{each-front}
-use Rattle.circuit.specs.Circuit.{Gate, constants}
+use Rattle.circuit.specs.Circuit.{Gate, constants, isConstant}
 use Rattle.circuit.specs.Each.{countGates, EachGate}
 use Rattle.circuit.specs.Fold.{gateValue, foldGates}
 use Rattle.circuit.specs.Valuation.{Ordered}
-use Rattle.circuit.specs.Depth.{isConstant, isCounted}
+use Rattle.circuit.specs.Depth.{isCounted}
 use Rattle.circuit.specs.Trim.{renameGate, rank, keepGates}
 use Rattle.circuit.proofs.EachLaws.{each-zip}
 use Rattle.circuit.proofs.FoldLaws.{fold-solves, simulation}

@@ -1,6 +1,8 @@
 -- 01, Circuits, 1 to 4, and 02, 2026-01: circuits, apart from the tables that they are written in.
 use Prim.Native.Nat.{ℕ, _+_, _*_, _-_}
+use mathlib.Core.Bool.{Bool}
 use mathlib.Core.List.{List}
+use lib.Dec.{ltb}
 use lib.ListN.{length, getD}
 use Rattle.circuit.specs.declared.table.Gate.{Gate as DeclaredGate}
 
@@ -55,6 +57,9 @@ maxLevel = 255
 -- 01, Circuits, 4: references 0 and 1 are the constants, then come the inputs, then the gates: the first gate's reference
 abbrev pub constants : ℕ
 constants = 2
+
+abbrev pub isConstant : (v : ℕ) → Bool
+isConstant v = ltb v constants
 
 abbrev pub firstGate : (inputs : ℕ) → ℕ
 firstGate inputs = inputs + constants

@@ -2,16 +2,12 @@
 use Prim.Native.Nat.{ℕ, _+_, max}
 use mathlib.Core.Bool.{Bool, not, _&&_, _||_}
 use mathlib.Core.List.{List, [], _∷_}
-use lib.Dec.{eqb, ltb}
+use lib.Dec.{eqb}
 use lib.ListN.{getD, set, replicate}
 use Rattle.lists.specs.First.{first}
 use Rattle.lists.specs.Each.{appendEach}
-use Rattle.circuit.specs.Circuit.{Gate, Start, Circuit, andKind, constants, firstGate}
+use Rattle.circuit.specs.Circuit.{Gate, Start, Circuit, andKind, isConstant, firstGate}
 use Rattle.circuit.specs.Fold.{atOutputs}
-
--- references 0 and 1
-abbrev pub isConstant : (v : ℕ) → Bool
-isConstant v = ltb v constants
 
 -- whether a gate counts, for depth, above and N: an AND does, but not one with a constant on either side (02, 2026-06), and an XOR does not
 -- (other kinds are refused). Only the operands' references say so: a gate whose value is the same on every input is no constant.

@@ -13,27 +13,15 @@ use lib.Seq.{getD-append-add}
 use borrow.Author.Tests.{le-ltb}
 use Rattle.lists.specs.First.{first}
 use Rattle.lists.specs.Each.{appendEach}
-use Rattle.circuit.specs.Circuit.{Gate, Circuit, andKind, constants, firstGate}
+use Rattle.circuit.specs.Circuit.{Gate, Circuit, andKind, constants, isConstant, firstGate}
 use Rattle.circuit.specs.Fold.{gateValue, foldGates, atOutputs}
 use Rattle.circuit.specs.Evaluation.{bitOp, bitOf, startBits, bits, evaluate}
-use Rattle.circuit.specs.Depth.{isConstant, plusCounted, gateDepth, startLevels, depths, depth}
+use Rattle.circuit.specs.Depth.{plusCounted, gateDepth, startLevels, depths, depth}
 use Rattle.circuit.proofs.StartLaws.{start-length}
+use Rattle.rules.proofs.SoundnessLaws.{fold-map}
 use Rattle.translator.specs.LeveledBit.{LeveledBit, leveledOp, loadedFrom, atLevels, startLeveled}
 
--- ---- a map that keeps the operation keeps the fold
-
-module _ {A B : Type 0} (f : A → B) (op : ℕ → A → A → A) (op′ : ℕ → B → B → B) (z : A)
-    (keeps : (k : ℕ) (a b : A) → f (op k a b) ≡ op′ k (f a) (f b)) where
-  fold-map : (gs : List Gate) (vs : List A) → map f (foldGates op z gs vs) ≡ foldGates op′ (f z) gs (map f vs)
-  unfolding appendEach
-  fold-map [] vs = refl
-  fold-map (g ∷ gs) vs =
-      let at : (r : ℕ) → f (getD vs r z) ≡ getD (map f vs) r (f z) = λ r. sym (List·getD-map f vs r z) in
-      fold-map gs (vs ++ (gateValue op z g vs ∷ []))
-      ∙ ap (foldGates op′ (f z) gs) (map-append f vs (gateValue op z g vs ∷ [])
-      ∙ ap (λ y. map f vs ++ (y ∷ [])) (keeps (g .kind) _ _ ∙ ap₂ (op′ (g .kind)) (at (g .left)) (at (g .right))))
-
--- so it does where values are read
+-- what is read of mapped values
 read-map : {A B : Type 0} (f : A → B) (z : A) (vs : List A) (ws : List B) → map f vs ≡ ws → (os : List ℕ)
     → map f (map (λ o. getD vs o z) os) ≡ map (λ o. getD ws o (f z)) os
 read-map f z vs ws e [] = refl
@@ -142,7 +130,7 @@ module _ (c : Circuit) (bytes : List ℕ) (e : length bytes ≡ c .inputs) where
   unfolding evaluate bits
   emitted-bits =
       read-map (λ b. b .bit) noValue (leveledValues c bytes) (bits c bytes)
-      (fold-map (λ b. b .bit) leveledOp bitOp noValue (λ k a b. refl) (c .gates) (startLeveled c bytes)
+      (fold-map (λ b. b .bit) leveledOp bitOp noValue 0 refl (λ k a b. refl) (c .gates) (startLeveled c bytes)
       ∙ ap (foldGates bitOp 0 (c .gates)) (start-bits 0 (startBits bytes) (startLevels c) (starts-long c bytes e)))
       (c .outputs)
 

@@ -10,7 +10,7 @@ use lib.ListN.{length, getD, set, getElem?}
 use lib.Seq.{getD-set-same, getD-set-other}
 use borrow.Author.Tests.{eq-eqb, ne-eqb, ltb-true}
 use Rattle.lists.specs.First.{first}
-use Rattle.circuit.specs.Depth.{isConstant}
+use Rattle.circuit.specs.Circuit.{isConstant}
 use Rattle.translator.specs.Machine.{Instruction, isLoad, isOperation, isEmit, Machine, emptyMachine, readFrom, writeTo, emit, execute, runFrom}
 use Rattle.translator.specs.LeveledBit.{LeveledBit, leveledOp}
 use Rattle.translator.specs.PublicRegister.{isPublicAfter}

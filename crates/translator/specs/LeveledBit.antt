@@ -5,9 +5,9 @@ use mathlib.Core.List.{List, [], _∷_}
 use mathlib.Core.Option.{Option}
 use lib.Dec.{eqb}
 use Rattle.lists.specs.First.{first}
-use Rattle.circuit.specs.Circuit.{Circuit, andKind}
+use Rattle.circuit.specs.Circuit.{Circuit, andKind, isConstant}
 use Rattle.circuit.specs.Evaluation.{bitOp, startBits}
-use Rattle.circuit.specs.Depth.{isConstant, startLevels}
+use Rattle.circuit.specs.Depth.{startLevels}
 use Rattle.translator.specs.Machine.{Instruction, run}
 
 -- The mark is the value's, so that a register is public from the load of a constant until it is overwritten.

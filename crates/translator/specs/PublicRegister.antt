@@ -5,7 +5,7 @@ use mathlib.Core.Bool.{Bool, _&&_}
 use mathlib.Core.List.{List, [], _∷_}
 use lib.Dec.{eqb}
 use Rattle.lists.specs.First.{first}
-use Rattle.circuit.specs.Depth.{isConstant}
+use Rattle.circuit.specs.Circuit.{isConstant}
 use Rattle.translator.specs.Machine.{Instruction, isLoad}
 use Rattle.translator.specs.Written.{isWrite}
 

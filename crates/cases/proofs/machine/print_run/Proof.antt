@@ -7,10 +7,10 @@ use Rattle.cases.proofs.machine.print_run.Statement.{statement}
 use Rattle.cases.proofs.machine.print_run.Tie as tie
 
 abbrev Inv-loop : tie.InvT-loop
-Inv-loop circuit program limit inputs bits₀ levels₀ marks₀ count i₀ t9 bits levels marks i = (4 * count ≤ length program) × (limit ≤ maxRegisters)
+Inv-loop circuit program limit inputs bits₀ levels₀ public₀ count i₀ t9 bits levels public i = (4 * count ≤ length program) × (limit ≤ maxRegisters)
 
 abbrev μ-loop : tie.MeasureT-loop
-μ-loop circuit program limit inputs bits₀ levels₀ marks₀ count i₀ t9 bits levels marks i = count - i
+μ-loop circuit program limit inputs bits₀ levels₀ public₀ count i₀ t9 bits levels public i = count - i
 
 pub print-run-spec : {M : Type 1} → statement M
 print-run-spec =
