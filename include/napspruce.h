@@ -99,7 +99,8 @@ uint64_t napspruce_evaluate(const uint32_t *circuit, size_t circuit_len, const u
  * Refusals: 1, 4, 5, 11, 6, 7 of the circuit. */
 uint64_t napspruce_measure(const uint32_t *circuit, size_t circuit_len);
 
-/* Judges a rule by its number, from 1. Gives 1 if there is no such rule, 2 if it is not sound, else 0.
+/* Judges a rule by its number, from 1. Gives 1 if there is no such rule, 2 if it is not sound, that is if its sides differ for some
+ * bits of its holes (all 1,024 cases are judged where there are ten holes, which is the most), else 0.
  * Refusals: 1, 4 to 8 of the rules. */
 uint64_t napspruce_judge(const uint32_t *rules, size_t rules_len, uint32_t rule);
 

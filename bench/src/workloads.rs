@@ -10,7 +10,9 @@ use crate::plain::gates::{AND, CLOSING, CONSTANTS, XOR};
 use crate::plain::lines::{self, Line, LINE_BYTES};
 use crate::plain::matching::match_site;
 use crate::plain::rewriting::rewrite;
-use crate::plain::rules::{Verdict, MOST_HOLES, MOST_RULES, MOST_SIDE_GATES};
+use crate::plain::rules::{
+    Verdict, MOST_HOLES, MOST_RULES, MOST_SIDE_GATES, SIDE_REFERENCES, WORD_HOLES,
+};
 use crate::plain::sites::MOST_SITES;
 
 /// The numbers of gates.
@@ -34,12 +36,13 @@ pub struct Form {
 }
 
 /// All workloads of one size.
-pub fn of_size(gates: usize) -> [Workload; 5] {
+pub fn of_size(gates: usize) -> [Workload; 6] {
     [
         random(gates),
         levels(gates),
         chain(gates),
         mismatch(gates),
+        wide(gates),
         doubled(gates),
     ]
 }
@@ -94,7 +97,22 @@ pub fn mismatch(gates: usize) -> Workload {
     Workload::new("mismatch", &mut random, circuit, listed([balance()]), sites)
 }
 
-/// The same chain, but for its end, with a rule of as many left gates as there
+/// Copies of a rule's left side in a row, and as many sites as there may be for
+/// that one rule, of as many holes and gates as there may be: at each copy, the
+/// last one first, it is kept, and in the rounds after that it no longer
+/// matches.
+pub fn wide(gates: usize) -> Workload {
+    let mut random = Random::new(gates);
+    let circuit = copies_circuit(gates);
+    // The last gate, the dead ones having been trimmed away.
+    let last = first_gate(&circuit) + gates - 1 - dead_gates(gates);
+    let copies = (gates - dead_gates(gates)) / MOST_SIDE_GATES;
+    let round = (0..copies).map(|copy| [1, (last - copy * MOST_SIDE_GATES) as u32, 0]);
+    let sites = round.cycle().take(MOST_SITES).collect();
+    Workload::new("wide", &mut random, circuit, listed([largest()]), sites)
+}
+
+/// A chain of ANDs, but for its end, with a rule of as many left gates as there
 /// may be that has as many ways to be searched for there as there can be. All
 /// but its first gate have the one before them as both operands, and so have
 /// the circuit's last ones: each is followed as written and crosswise. The
@@ -219,6 +237,37 @@ fn chain_circuit(gates: usize) -> Vec<Line> {
     circuit_of(inputs, lines, vec![first + gates - 1])
 }
 
+/// So many gates of copies in a row are dead: those that make up no copy, and
+/// as many as one, so that a largest circuit has room for a right side.
+fn dead_gates(gates: usize) -> usize {
+    MOST_SIDE_GATES + gates % MOST_SIDE_GATES
+}
+
+/// Dead gates, and then copies of the largest rule's left side: the first hole
+/// is the gate before the copy, the others are the inputs in turn.
+fn copies_circuit(gates: usize) -> Vec<Line> {
+    let inputs = MOST_INPUTS.min(gates);
+    let first = CONSTANTS + inputs;
+    let dead = [XOR, 0, 0];
+    let mut lines = vec![dead; dead_gates(gates)];
+    while lines.len() < gates {
+        let own = first + lines.len();
+        // Below the first copy there is no gate that is live.
+        let before = if lines.len() == dead_gates(gates) {
+            CONSTANTS
+        } else {
+            own - 1
+        };
+        let holes = (1..MOST_HOLES).map(|hole| CONSTANTS + (own + hole) % inputs);
+        let names = (0..CONSTANTS).chain([before]).chain(holes).chain(own..);
+        let names: Vec<usize> = names.take(SIDE_REFERENCES).collect();
+        let name = |operand: u32| names[operand as usize] as u32;
+        let copy = largest_left().into_iter();
+        lines.extend(copy.map(|[kind, left, right]| [kind, name(left), name(right)]));
+    }
+    circuit_of(inputs, lines, vec![first + gates - 1])
+}
+
 /// Gates from reference `first` on, each of the one before it and the next of
 /// so many inputs or holes, which come round again and again.
 fn chained(inputs: usize, first: usize, kind: impl Fn(usize) -> u32) -> impl Iterator<Item = Line> {
@@ -304,15 +353,46 @@ fn rule(holes: usize, left: &[Line], right: &[Line]) -> Vec<Line> {
     [&[counts], left, right, &[[CLOSING, closing as u32, 0]]].concat()
 }
 
-/// As many holes and gates as there may be, to the same with operands
-/// exchanged.
+/// As many holes and gates as there may be. With p the product of all holes,
+/// one after another on the left, in pairs on the right, and q to v the first
+/// six of them: (((((p⊕q)·r)⊕s)·t)⊕u)·v to p⊕(((((q·r)⊕s)·t)⊕u)·v).
+fn largest() -> Vec<Line> {
+    let first = CONSTANTS + MOST_HOLES;
+    let product = first + MOST_HOLES - 2;
+    let pairs = (CONSTANTS..).step_by(2).take(MOST_HOLES - 1);
+    let mut right: Vec<Line> = pairs
+        .map(|operand| [AND, operand as u32, operand as u32 + 1])
+        .collect();
+    right.extend(chained(MOST_HOLES, product + 1, alternating).take(5));
+    let last = first + right.len() - 1;
+    right.push([XOR, product as u32, last as u32]);
+    rule(MOST_HOLES, &largest_left(), &right)
+}
+
+fn largest_left() -> Vec<Line> {
+    let kind = |index| {
+        if index < MOST_HOLES - 1 {
+            AND
+        } else {
+            alternating(index)
+        }
+    };
+    let gates = chained(MOST_HOLES, CONSTANTS + MOST_HOLES, kind);
+    gates.take(MOST_SIDE_GATES).collect()
+}
+
+fn alternating(index: usize) -> u32 {
+    [AND, XOR][index % 2]
+}
+
+/// As many gates as there may be, of as many holes as one word has assignments
+/// for, to the same with operands exchanged.
 fn mirrored() -> Vec<Line> {
-    let alternating = |index| [AND, XOR][index % 2];
-    let gates = chained(MOST_HOLES, CONSTANTS + MOST_HOLES, alternating);
+    let gates = chained(WORD_HOLES, CONSTANTS + WORD_HOLES, alternating);
     let left: Vec<Line> = gates.take(MOST_SIDE_GATES).collect();
     let swapped = |&[kind, left, right]: &Line| [kind, right, left];
     let right: Vec<Line> = left.iter().map(swapped).collect();
-    rule(MOST_HOLES, &left, &right)
+    rule(WORD_HOLES, &left, &right)
 }
 
 /// How often a random site is drawn in search of a verdict.

@@ -27,11 +27,13 @@ const SEED: u64 = 20;
 const CASES: u64 = 2000;
 
 /// Numbers near limits and far beyond them.
-const ODD: [u32; 16] = [
+const ODD: [u32; 18] = [
     0,
     1,
     2,
     3,
+    10,
+    11,
     16,
     64,
     65,

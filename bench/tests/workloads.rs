@@ -11,7 +11,7 @@ use bench::plain::rewriting::rewrite;
 use bench::plain::sites::MOST_SITES;
 use bench::plain::translation::PROGRAM_NUMBERS;
 use bench::program::{is_refusal, Plain};
-use bench::workloads::{chain, doubled, levels, mismatch, of_size, random, Workload, SIZES};
+use bench::workloads::{chain, doubled, levels, mismatch, of_size, random, wide, Workload, SIZES};
 
 /// The verdicts of a workload's sites.
 fn verdicts(workload: &Workload) -> Vec<u8> {
@@ -83,6 +83,25 @@ fn chains_are_shortened_until_they_are_balanced() {
 fn mismatching_sites_all_get_verdict_4() {
     for gates in SIZES {
         assert_eq!(verdicts(&mismatch(gates)), [4; MOST_SITES]);
+    }
+}
+
+#[test]
+fn wide_sites_all_name_one_rule_of_ten_holes() {
+    for gates in SIZES {
+        let workload = wide(gates);
+        let [_, rules, sites] = tables(&workload);
+        assert_eq!(rules[..6], [1, 0, 0, 10, 15, 15]);
+        assert_eq!(sites[..3], [512, 0, 0]);
+        let (sites, _) = sites[3..].as_chunks::<3>();
+        assert!(sites.iter().all(|site| site[0] == 1));
+        // All copies are rewritten in the first round: fifteen gates each, and
+        // fewer than thirty more that are dead.
+        let verdicts = verdicts(&workload);
+        let kept = count(&verdicts, 0);
+        assert!(15 * kept <= gates && gates < 15 * (kept + 2));
+        assert_eq!(count(&verdicts[..kept], 0), kept);
+        assert_eq!(count(&verdicts, 4), MOST_SITES - kept);
     }
 }
 

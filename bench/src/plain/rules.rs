@@ -5,7 +5,7 @@ use super::lines::{lines_of, Line};
 use super::refusal::{require, Answer, Refusal, RULES};
 
 pub const MOST_RULES: usize = 64;
-pub const MOST_HOLES: usize = 6;
+pub const MOST_HOLES: usize = 10;
 pub const MOST_SIDE_GATES: usize = 15;
 pub const MOST_RULE_LINES: usize = 1 + MOST_RULES * (2 + 2 * MOST_SIDE_GATES);
 /// References of a side with as many holes and gates as there may be.
@@ -14,8 +14,12 @@ pub const SIDE_REFERENCES: usize = CONSTANTS + MOST_HOLES + MOST_SIDE_GATES;
 /// What is said of a site: 0 kept, or the first of 1 to 6 that applies.
 pub type Verdict = u8;
 
-/// The constants and holes under all 64 assignments, one to each bit.
-const ASSIGNMENTS: [u64; CONSTANTS + MOST_HOLES] = [
+/// So many holes have as many assignments as a word has bits.
+pub const WORD_HOLES: usize = 6;
+
+/// The constants and the first holes under all 64 assignments of these, one to
+/// each bit.
+const ASSIGNMENTS: [u64; CONSTANTS + WORD_HOLES] = [
     0,
     !0,
     0xaaaa_aaaa_aaaa_aaaa,
@@ -146,19 +150,29 @@ impl<'a> Rule<'a> {
         self.closing[1] as usize
     }
 
-    /// Whether both sides agree on every assignment; holes that the rule
-    /// lacks only repeat the others' assignments.
+    /// Whether the sides agree on all assignments, word by word; the first that
+    /// differs settles it.
     pub fn is_sound(&self) -> bool {
-        let last = self.first_gate() + self.left.len() - 1;
-        self.words(self.left)[last] == self.words(self.right)[self.closing()]
+        let mut values = [0; SIDE_REFERENCES];
+        values[..ASSIGNMENTS.len()].copy_from_slice(&ASSIGNMENTS);
+        let words = 1 << self.holes.saturating_sub(WORD_HOLES);
+        (0..words).all(|word| self.agrees_in(word, &mut values))
     }
 
-    /// The truth tables of a side's references.
-    fn words(&self, side: &[Line]) -> [u64; SIDE_REFERENCES] {
-        let mut words = [0; SIDE_REFERENCES];
-        words[..ASSIGNMENTS.len()].copy_from_slice(&ASSIGNMENTS);
-        work_out(side, self.first_gate(), &mut words);
-        words
+    /// Whether both sides agree on the assignments of a word: in it the holes
+    /// beyond the first six have the bits of its number. Holes that the rule
+    /// lacks only repeat the others' assignments. The sides are worked out in
+    /// the same place, one after the other: neither reads the other's gates.
+    fn agrees_in(&self, word: u64, values: &mut [u64; SIDE_REFERENCES]) -> bool {
+        for hole in WORD_HOLES..self.holes {
+            let bit = word >> (hole - WORD_HOLES) & 1;
+            values[CONSTANTS + hole] = bit.wrapping_neg();
+        }
+        let first = self.first_gate();
+        work_out(self.left, first, values);
+        let left = values[first + self.left.len() - 1];
+        work_out(self.right, first, values);
+        left == values[self.closing()]
     }
 }
 

@@ -2,9 +2,10 @@
 use mathlib.Core.Path.{_≡_, refl, sym, ap, ap₂, _∙_}
 use mathlib.Core.Bool.{Bool, true}
 use mathlib.Core.List.{[], _∷_, _++_, map, map-append}
-use Prim.Native.Nat.{ℕ, zero, suc, _≤_, _<_}
+use Prim.Native.Nat.{ℕ, zero, suc, _+_, _≤_, _<_}
 use native.Mathlib.Nat.{not-suc-le-zero, le-refl}
 use native.Mathlib.Decide.{decLt}
+use native.Mathlib.Numerals.{add-one}
 use native.Mathlib.Omega.{arith}
 use lib.ListN.{length, take, getD, length-append, List·getD-append, List·getD-eq-default}
 use lib.Seq.{take-all, take-append-le, getD-append-seam}
@@ -15,6 +16,10 @@ module _ (test : ℕ → Bool) where
   pub below-none : allBelow test 0 ≡ true
   unfolding allBelow
   below-none = refl
+
+  pub below-more : (n : ℕ) → allBelow test n ≡ true → test n ≡ true → allBelow test (n + 1) ≡ true
+  unfolding allBelow
+  below-more n e h = rw add-one (both {a = allBelow test n} {b = test n} e h)
 
   -- a number of those that all pass
   pub below-at : (n i : ℕ) → allBelow test n ≡ true → i < n → test i ≡ true

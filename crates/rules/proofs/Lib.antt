@@ -6,6 +6,7 @@ pub mod UseWordLaws
 pub mod RefusalLaws
 pub mod SiteLaws
 pub mod SoundnessLaws
+pub mod HoleWordLaws
 pub mod SideLaws
 pub mod MatchLaws
 pub mod TrimmedLaws

@@ -3,11 +3,12 @@
 use mathlib.Core.Path.{_≡_, sym, ap, ap₂, _∙_}
 use mathlib.Core.Bool.{true}
 use mathlib.Core.List.{List}
-use Prim.Native.Nat.{ℕ, _+_, _*_, _-_, _≤_, _<_}
+use Prim.Native.Nat.{ℕ, _+_, _*_, _-_, _<_}
 use native.Mathlib.Omega.{arith}
 use lib.Dec.{eqb}
 use lib.ListN.{length, take, drop, getD, set}
-use Rattle.lists.proofs.Each.{Filled, filled-none, filled-more, filled-all}
+use lib.Seq.{take-take}
+use Rattle.lists.proofs.Each.{each-begin, Filled, filled-none, filled-more, filled-all}
 use Rattle.lists.proofs.Maps.{take-read}
 use Rattle.circuit.specs.Circuit.{firstGate}
 use Rattle.circuit.specs.Table.{lineAt, linesOf}
@@ -17,12 +18,10 @@ use Rattle.circuit.specs.Fold.{gateValue}
 use Rattle.circuit.specs.Evaluation.{bitOp}
 use Rattle.circuit.proofs.TableLaws.{lines-length, step-from}
 use Rattle.circuit.proofs.LoopLaws.{value-read}
-use Rattle.rules.specs.Rule.{maxHoles}
-use Rattle.rules.specs.RuleTable.{holesAt, leftsAt, leftFrom, closingFrom, ruleAt}
-use Rattle.rules.specs.Soundness.{sideValue, isSound}
-use Rattle.rules.specs.Words.{assignments, startWords}
+use Rattle.rules.specs.RuleTable.{holesAt, leftsAt, rightsAt, leftFrom, rightFrom, closingFrom, ruleAt}
+use Rattle.rules.specs.Soundness.{sideValue}
+use Rattle.rules.specs.Words.{startWords, sameWords}
 use Rattle.rules.proofs.LineLaws.{operands-at}
-use Rattle.rules.proofs.SoundnessLaws.{words-judge-all}
 
 module _ (t : List ℕ) (q n m size : ℕ) (start : List ℕ) where
   -- the words of the first i gates are there
@@ -45,13 +44,21 @@ module _ (t : List ℕ) (q n m size : ℕ) (start : List ℕ) where
   side-all d i f h r l =
       take-read (m + i) d _ r 0 (filled-all (gateValue bitOp 0) (linesOf n (drop q t)) start m size d i f (omega (arith, lines-length n (drop q t)))) (omega arith)
 
--- the compare of both sides' words, where they were read off for the rule at number p
-pub side-judge : (t : List ℕ) (p : ℕ) → holesAt t p ≤ maxHoles → (x y : ℕ)
-    → x ≡ sideValue (ruleAt t p .lefts) (firstGate (holesAt t p) + leftsAt t p - 1) (startWords assignments (holesAt t p))
-    → y ≡ sideValue (ruleAt t p .rights) (getD t (closingFrom t p + 1) 0) (startWords assignments (holesAt t p))
-    → eqb x y ≡ isSound (ruleAt t p)
-side-judge t p h x y e f =
+  -- and the front is as it was
+  pub side-kept : (d : List ℕ) (i : ℕ) → SideTo d i → i ≡ n → length start ≡ m → take m d ≡ start
+  side-kept d i f h l =
+      sym (take-take m (m + i) d (omega arith))
+      ∙ ap (take m) (filled-all (gateValue bitOp 0) (linesOf n (drop q t)) start m size d i f (omega (arith, lines-length n (drop q t))))
+      ∙ each-begin (gateValue bitOp 0) (linesOf n (drop q t)) start m l
+
+-- the compare of both sides' words, where they were read off for the rule at number p: its lines at q and q′, its closing line at e, both
+-- from the words of the constants and holes
+pub side-compare : (t : List ℕ) (p n from x y q q′ e : ℕ) (v v′ : List ℕ)
+    → x ≡ sideValue (linesOf (leftsAt t p) (drop q t)) (firstGate (holesAt t p) + leftsAt t p - 1) v → q ≡ leftFrom t p → v ≡ startWords n from (holesAt t p)
+    → y ≡ sideValue (linesOf (rightsAt t p) (drop q′ t)) (getD t (e + 1) 0) v′ → q′ ≡ rightFrom t p → e ≡ closingFrom t p → v′ ≡ startWords n from (holesAt t p)
+    → eqb x y ≡ sameWords n from (ruleAt t p)
+side-compare t p n from x y q q′ e v v′ ex qx vx ey qy ee vy =
     ap₂ eqb
-    (e ∙ ap (λ k. sideValue (ruleAt t p .lefts) (firstGate (holesAt t p) + k - 1) (startWords assignments (holesAt t p))) (sym (lines-length (leftsAt t p) (drop (leftFrom t p) t))))
-    f
-    ∙ words-judge-all (ruleAt t p) h
+    (ex ∙ ap₂ (λ q v. sideValue (linesOf (leftsAt t p) (drop q t)) (firstGate (holesAt t p) + leftsAt t p - 1) v) qx vx
+    ∙ ap (λ k. sideValue (ruleAt t p .lefts) (firstGate (holesAt t p) + k - 1) (startWords n from (holesAt t p))) (sym (lines-length (leftsAt t p) (drop (leftFrom t p) t))))
+    (ey ∙ ap₂ (λ q e. sideValue (linesOf (rightsAt t p) (drop q t)) (getD t (e + 1) 0) v′) qy ee ∙ ap (sideValue (ruleAt t p .rights) (ruleAt t p .closing)) vy)

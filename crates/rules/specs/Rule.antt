@@ -12,12 +12,12 @@ pub record Rule : Type 0 where
   pub rights : List Gate
   pub closing : ℕ
 
--- 01, Rules, 1 and 2: the limits of the heads' numbers
+-- 01, Rules, 1 and 2: the limits of the heads' numbers; the holes' is that of 02, 2026-07
 abbrev pub maxRules : ℕ
 maxRules = 64
 
 abbrev pub maxHoles : ℕ
-maxHoles = 6
+maxHoles = 10
 
 abbrev pub maxLefts : ℕ
 maxLefts = 15

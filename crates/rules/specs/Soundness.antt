@@ -1,4 +1,4 @@
--- 01, Rules, 6: when a rule is sound.
+-- 01, Rules, 6: when a rule is sound; 02, 2026-07, 2, for ten holes, which have 1,024 assignments.
 use Prim.Native.Nat.{ℕ, _/_, _%_, _^_}
 use mathlib.Core.Bool.{Bool}
 use mathlib.Core.List.{List, _∷_}

@@ -1,5 +1,5 @@
 -- The theorems about rules and sites, as statements; each is proved under its name in proofs/.
-use Prim.Native.Nat.{ℕ, _+_, _/_, _^_, _≤_, _<_}
+use Prim.Native.Nat.{ℕ, _+_, _*_, _/_, _^_, _≤_, _<_}
 use mathlib.Core.Path.{_≡_}
 use mathlib.Core.Logic.{_↔_}
 use mathlib.Core.Bool.{true, not}
@@ -7,7 +7,7 @@ use mathlib.Core.List.{List}
 use mathlib.Core.Option.{some}
 use lib.ListN.{length, drop, getD}
 use Rattle.lists.specs.First.{first}
-use Rattle.circuit.specs.Circuit.{Circuit, firstGate}
+use Rattle.circuit.specs.Circuit.{Gate, Circuit, firstGate}
 use Rattle.circuit.specs.Fold.{foldGates}
 use Rattle.circuit.specs.Valuation.{Ordered, Solves}
 use Rattle.circuit.specs.Evaluation.{bits}
@@ -21,8 +21,8 @@ use Rattle.rules.specs.RuleTable.{placeOf, ruleOf, decodeRules, encodeRu
 use Rattle.rules.specs.RuleRefusal.{referencesOk, usesOk, rulesRefusal}
 use Rattle.rules.specs.SiteTable.{sitesRefusal}
 use Rattle.rules.specs.WellFormed.{WellFormedRule, ValidRule, WellFormedRules, WellFormedSites}
-use Rattle.rules.specs.Soundness.{leftValue, rightValue, isSound}
-use Rattle.rules.specs.Words.{sameWords}
+use Rattle.rules.specs.Soundness.{bit, sideValue, startHoles, leftValue, rightValue, isSound}
+use Rattle.rules.specs.Words.{startWords, allSameWords, assignmentsPerWord, wordsFor}
 use Rattle.rules.specs.Match.{binding, boundTo, matchRule}
 use Rattle.rules.specs.Substitution.{Substitution}
 use Rattle.rules.specs.Verdict.{passes, notSound, notAGate, noMatch, hasRule, judgement, kindOf, kindVerdict, matchSite}
@@ -67,9 +67,21 @@ SoundIsAgreement =
     → (isSound u ≡ true)
     ↔ ((assignment : ℕ → ℕ) → ((j : ℕ) → j < u .holes → assignment j < 2) → leftValue u assignment ≡ rightValue u assignment)
 
--- The compare of the two sides' words says whether it is sound, whatever the number of holes, if the words have a bit for each assignment.
+-- 02, 2026-07, 3: bit a of a reference's word is its value under assignment from + a, which gives hole j bit j of that number; whatever
+-- the number of holes, however many bits words have and at whichever assignment they begin.
+abbrev pub WordsStandForAssignments : Type 0
+WordsStandForAssignments =
+    (n from holes : ℕ) (gs : List Gate) (r a : ℕ) → a < n
+    → bit a (sideValue gs r (startWords n from holes)) ≡ sideValue gs r (startHoles holes (λ j. bit j (from + a)))
+
+-- The compares of the two sides' words say whether a rule is sound, whatever the number of holes, if the words have a bit for each
+-- assignment.
 abbrev pub WordsJudge : Type 0
-WordsJudge = (u : Rule) (n : ℕ) → 2 ^ u .holes ≤ n → sameWords n u ≡ isSound u
+WordsJudge = (u : Rule) (n words : ℕ) → 2 ^ u .holes ≤ words * n → allSameWords n words u ≡ isSound u
+
+-- At each number of holes the code's words are enough: one up to six holes, 2 to 16 for seven to ten.
+abbrev pub WordsJudgeAtEachSize : Type 0
+WordsJudgeAtEachSize = (u : Rule) → allSameWords assignmentsPerWord (wordsFor (u .holes)) u ≡ isSound u
 
 -- ---- the match
 

@@ -16,7 +16,7 @@ pub const MAX_RULES: u32 = 64;
 // As many as a rule's number can be, with 0, which is none.
 pub const RULE_NUMBERS: usize = MAX_RULES as usize + 1;
 
-pub const MAX_HOLES: u32 = 6;
+pub const MAX_HOLES: u32 = 10;
 
 pub const MAX_LEFTS: u32 = 15;
 

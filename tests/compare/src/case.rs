@@ -7,7 +7,7 @@ use evaluator::holding::Holding;
 use evaluator::lines::{lines_of_table, read_line, text_of, Line, LINE_BYTES};
 use evaluator::random::Random;
 use evaluator::refusal::CIRCUIT;
-use evaluator::rules::{rules_lines, MOST_RULES};
+use evaluator::rules::MOST_RULES;
 use evaluator::sites::sites_lines;
 use evaluator::starting::STARTING;
 use evaluator::translation::MOST_REGISTERS;
@@ -16,10 +16,10 @@ use crate::calls::Calls;
 use crate::numbers::{
     alter, any_lines, odd_number, spoil_run, spoil_table, spoil_text, LINE_NUMBERS,
 };
-use crate::shapes::{chained, constant, crowded, full, handed_on, overfull, symmetric};
+use crate::shapes::{chained, constant, crowded, full, handed_on, overfull, symmetric, wide};
 
 /// How many rules are judged, sites matched and searched, and limits picked in a case or search.
-const JUDGED: u32 = 6;
+const JUDGED: u32 = 8;
 const MATCHED: usize = 5;
 const SEARCHED: usize = 2;
 const LIMITS: usize = 3;
@@ -84,6 +84,7 @@ fn texts(random: &mut Random, seed: u64, number: u64) -> [Vec<u8>; 3] {
         57 | 157 => overfull(random),
         107 => full(random),
         113 => full(random).with_wrong_starts(random),
+        rest if rest % 20 == 5 => wide(random, number as usize / 20),
         rest if rest % 20 == 9 => symmetric(random),
         rest if rest % 20 == 17 => constant(random),
         rest if rest % 10 == 3 => {
@@ -100,7 +101,7 @@ fn texts(random: &mut Random, seed: u64, number: u64) -> [Vec<u8>; 3] {
         }
     };
     let circuit = draft.circuit_lines(random);
-    let rules = rules_lines(&draft.rules);
+    let rules = draft.rules_lines(random);
     let sites = sites_lines(&draft.sites);
     [circuit, rules, sites].map(|lines| text_of(&lines))
 }

@@ -6,7 +6,7 @@ use evaluator::random::Random;
 pub const LINE_NUMBERS: usize = 3;
 
 /// Limits of 01 and 02 and their neighbours, numbers whose triple is near 2 to the power 32, and the largest.
-const ODD: [u32; 33] = [
+const ODD: [u32; 35] = [
     0,
     1,
     2,
@@ -14,6 +14,8 @@ const ODD: [u32; 33] = [
     4,
     6,
     7,
+    10,
+    11,
     15,
     16,
     64,

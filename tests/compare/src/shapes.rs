@@ -4,12 +4,17 @@ use std::collections::VecDeque;
 
 use evaluator::circuit::{Circuit, MOST_GATES, MOST_INPUTS, MOST_OUTPUTS};
 use evaluator::gates::{Gate, Kind, CONSTANTS};
-use evaluator::generator::{outnumber, some_starts, spoil_starts, stock, symmetric_rule};
+use evaluator::generator::{
+    differing, outnumber, some_starts, spoil_starts, stock, symmetric_rule,
+};
 use evaluator::lines::Line;
 use evaluator::random::Random;
-use evaluator::rules::{Rule, MOST_HOLES, MOST_RULES, MOST_SIDE_GATES};
+use evaluator::rules::{assignment, rules_lines, Rule, MOST_HOLES, MOST_RULES, MOST_SIDE_GATES};
 use evaluator::sites::{Site, MOST_SITES};
 use evaluator::starting::{Start, HIGHEST_LEVEL};
+
+/// So many holes have as many assignments as a word has bits, and rules of more of them are judged by several words.
+const WORD_HOLES: usize = 6;
 
 /// A circuit, rules and sites.
 pub struct Draft {
@@ -33,6 +38,18 @@ impl Draft {
             let last = lines[lines.len() - 1];
             let count = random.pick(&[lines.len() - 1, lines.len() + 1]);
             lines.resize(count, last);
+        }
+        lines
+    }
+
+    /// The rules' lines, now and again with a rule that is said to have another number of holes.
+    pub fn rules_lines(&self, random: &mut Random) -> Vec<Line> {
+        let mut lines = rules_lines(&self.rules);
+        if random.chance(10) {
+            let before = &self.rules[..random.below(self.rules.len())];
+            let head = 1 + before.iter().map(|rule| rule.lines().len()).sum::<usize>();
+            let most = MOST_HOLES as usize;
+            lines[head][0] = random.between(WORD_HOLES, most + 2) as u32;
         }
         lines
     }
@@ -154,10 +171,24 @@ fn any_gate(random: &mut Random, kind: Kind, own: usize) -> Gate {
 
 /// A rule whose pattern is a chain of up to as many gates as there may be, a circuit with that pattern in it, and sites there.
 pub fn chained(random: &mut Random) -> Draft {
-    let rule = chain_rule(random);
+    let rule = chain_rule(random, 1);
     let mask = any_mask(random, &rule);
     let (circuit, end) = planted(random, &rule, mask, 0);
     aimed(random, rule, circuit, end, mask)
+}
+
+/// The same with a rule of so many holes that several words are judged (02, 2026-07), and behind it, for each such number of holes,
+/// one that is unsound on a single assignment; the word of that assignment goes round from turn to turn.
+pub fn wide(random: &mut Random, turn: usize) -> Draft {
+    let rule = wide_rule(random);
+    let mask = any_mask(random, &rule);
+    let (circuit, end) = planted(random, &rule, mask, 0);
+    let mut draft = aimed(random, rule, circuit, end, mask);
+    for holes in WORD_HOLES + 1..=MOST_HOLES as usize {
+        let words = 1 << (holes - WORD_HOLES);
+        draft.rules.push(differing_in(random, holes, turn % words));
+    }
+    draft
 }
 
 /// The same with a rule in stock, most of whose holes are constants in the circuit, and an AND above the pattern: such ANDs cost no
@@ -190,6 +221,41 @@ pub fn symmetric(random: &mut Random) -> Draft {
     aimed(random, rule, circuit, end, mask)
 }
 
+/// A rule of as many holes and gates as there may be, a chain, or one that is unsound on a single assignment.
+fn wide_rule(random: &mut Random) -> Rule {
+    let least = WORD_HOLES + 1;
+    match random.below(3) {
+        0 => largest_rule(),
+        1 => chain_rule(random, least),
+        _ => {
+            let holes = random.between(least, MOST_HOLES as usize);
+            let word = random.below(1 << (holes - WORD_HOLES));
+            differing_in(random, holes, word)
+        }
+    }
+}
+
+/// The rule in stock of the most holes, which has as many left gates as there may be.
+fn largest_rule() -> Rule {
+    let rules = stock().into_iter();
+    rules
+        .max_by_key(|rule| rule.holes)
+        .expect("there are rules in stock")
+}
+
+/// A rule that is unsound on a single assignment of such a word, often its first or last.
+fn differing_in(random: &mut Random, holes: usize, word: usize) -> Rule {
+    loop {
+        let last = (1 << WORD_HOLES) - 1;
+        let any = random.between(0, last);
+        let number = word << WORD_HOLES | random.pick(&[0, any, last]);
+        // Where most bits are 0 there are not gates enough.
+        if let Some(rule) = differing(&assignment(holes, number as u32)) {
+            return rule;
+        }
+    }
+}
+
 fn any_mask(random: &mut Random, rule: &Rule) -> u32 {
     random.below(1 << rule.left.len()) as u32
 }
@@ -215,10 +281,11 @@ fn aimed(random: &mut Random, rule: Rule, circuit: Circuit, gate: usize, mask: u
     }
 }
 
-/// From a product or sum of holes, some of them repeated, to the balanced one without repetition; now and then unsound.
-fn chain_rule(random: &mut Random) -> Rule {
+/// From a product or sum of holes, so many at least and some of them repeated, to the balanced one without repetition; now and
+/// then unsound.
+fn chain_rule(random: &mut Random, least: usize) -> Rule {
     let kind = random.pick(&[Kind::Xor, Kind::And]);
-    let holes = random.between(1, MOST_HOLES as usize);
+    let holes = random.between(least, MOST_HOLES as usize);
     let first = CONSTANTS + holes;
     let operands = chain_operands(random, holes);
     let odd = |&hole: &usize| operands.iter().filter(|&&other| other == hole).count() % 2 == 1;

@@ -12,7 +12,7 @@ use std::ops::Range;
 use crate::circuit::Circuit;
 use crate::matching::{bindings, judged_at, part_holds, root_bound, trimmed_and_rules};
 use crate::refusal::{refuse_if, Answer, NO_TABLE};
-use crate::rules::{Rule, Verdict};
+use crate::rules::{Judge, Rule, Verdict};
 
 /// The highest limit of ways.
 pub const MOST_WAYS: u32 = 65_535;
@@ -42,7 +42,7 @@ pub fn find_mask(
 ) -> Answer<Found> {
     let (circuit, rules) = trimmed_and_rules(circuit, rules)?;
     refuse_if(!(1..=MOST_WAYS).contains(&limit), 12, NO_TABLE)?;
-    Ok(match judged_at(&circuit, &rules, rule, gate) {
+    Ok(match judged_at(&circuit, &Judge::of(&rules), rule, gate) {
         Ok(rule) => Search::of(&circuit, rule, gate as usize).within(limit),
         Err(verdict) => Found::without_mask(verdict, 0),
     })

@@ -6,7 +6,7 @@ use crate::circuit::Circuit;
 use crate::gates::CONSTANTS;
 use crate::lines::lines_of_table;
 use crate::refusal::{Answer, CIRCUIT, RULES};
-use crate::rules::{checked_rules, judged, Rule, Verdict};
+use crate::rules::{checked_rules, Judge, Rule, Verdict};
 use crate::sites::Site;
 
 /// From holes and left gates of a rule to references of a circuit.
@@ -22,7 +22,8 @@ pub fn match_site(
 ) -> Answer<Verdict> {
     let (circuit, rules) = trimmed_and_rules(circuit, rules)?;
     let site = Site { rule, gate, mask };
-    Ok(matched(&circuit, &rules, site).err().unwrap_or(0))
+    let verdict = matched(&circuit, &Judge::of(&rules), site).err();
+    Ok(verdict.unwrap_or(0))
 }
 
 /// The trimmed circuit and the rules of two tables, tested for 1 of both, then
@@ -37,10 +38,10 @@ pub fn trimmed_and_rules(circuit: &[u32], rules: &[u32]) -> Answer<(Circuit, Vec
 /// The site's rule with its bindings, or the first of verdicts 1 to 4.
 pub fn matched<'a>(
     circuit: &Circuit,
-    rules: &'a [Rule],
+    judge: &Judge<'a>,
     site: Site,
 ) -> Result<(&'a Rule, Bindings), Verdict> {
-    let rule = judged_at(circuit, rules, site.rule, site.gate)?;
+    let rule = judged_at(circuit, judge, site.rule, site.gate)?;
     let bindings = bindings(circuit, rule, site.gate as usize, site.mask).ok_or(4)?;
     Ok((rule, bindings))
 }
@@ -49,11 +50,11 @@ pub fn matched<'a>(
 /// first of verdicts 1 to 3.
 pub fn judged_at<'a>(
     circuit: &Circuit,
-    rules: &'a [Rule],
+    judge: &Judge<'a>,
     rule: u32,
     gate: u32,
 ) -> Result<&'a Rule, Verdict> {
-    let rule = judged(rules, rule)?;
+    let rule = judge.judged(rule)?;
     circuit.gate(gate as usize).ok_or(3)?;
     Ok(rule)
 }

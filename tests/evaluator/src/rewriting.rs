@@ -5,7 +5,7 @@ use crate::depth::{pair, Pair};
 use crate::lines::{lines_of_table, Line};
 use crate::matching::{matched, Bindings};
 use crate::refusal::{overwrite, require_room, Answer, CIRCUIT, RULES, SITES};
-use crate::rules::{checked_rules, Rule, Verdict};
+use crate::rules::{checked_rules, Judge, Rule, Verdict};
 use crate::sites::{checked_sites, Site, MOST_SITES};
 
 /// What a call of [`rewrite`] gives back beside its buffers.
@@ -66,10 +66,11 @@ impl Run {
     /// Trims, then takes the sites in order; each gets what the one before it
     /// left.
     pub fn of(circuit: &Circuit, rules: &[Rule], sites: &[Site]) -> Run {
+        let judge = Judge::of(rules);
         let mut current = circuit.trimmed();
         let mut verdicts = Vec::new();
         for &site in sites {
-            verdicts.push(step(&mut current, rules, site));
+            verdicts.push(step(&mut current, &judge, site));
         }
         Run {
             old: pair(circuit),
@@ -89,8 +90,8 @@ impl Run {
 }
 
 /// Takes one site: the circuit changes only if the verdict is 0.
-pub fn step(circuit: &mut Circuit, rules: &[Rule], site: Site) -> Verdict {
-    match improved(circuit, rules, site) {
+pub fn step(circuit: &mut Circuit, judge: &Judge, site: Site) -> Verdict {
+    match improved(circuit, judge, site) {
         Ok(next) => {
             *circuit = next;
             0
@@ -100,8 +101,8 @@ pub fn step(circuit: &mut Circuit, rules: &[Rule], site: Site) -> Verdict {
 }
 
 /// The circuit after a kept site, or the first verdict that applies.
-pub fn improved(circuit: &Circuit, rules: &[Rule], site: Site) -> Result<Circuit, Verdict> {
-    let (rule, bindings) = matched(circuit, rules, site)?;
+pub fn improved(circuit: &Circuit, judge: &Judge, site: Site) -> Result<Circuit, Verdict> {
+    let (rule, bindings) = matched(circuit, judge, site)?;
     if circuit.gates.len() - 1 + rule.right.len() > MOST_GATES as usize {
         return Err(5);
     }

@@ -1,12 +1,15 @@
 //! Rules, their checks and the judge (01, Rules).
 
+use std::cell::OnceCell;
+
 use crate::gates::{closing_line, closing_of, gates_of, references_hold, values, Gate, CONSTANTS};
 use crate::lines::{lines_of_table, Line};
 use crate::lists::{list_count, list_lines};
 use crate::refusal::{refuse_if, Answer, Refusal, RULES};
 
 pub const MOST_RULES: u32 = 64;
-pub const MOST_HOLES: u32 = 6;
+/// 02, 2026-07; they were six in 01.
+pub const MOST_HOLES: u32 = 10;
 pub const MOST_SIDE_GATES: u32 = 15;
 
 /// What is said of a site: 0 kept, or the first of 1 to 6 that applies.
@@ -23,19 +26,33 @@ pub struct Rule {
 /// Judges a rule of a table: verdict 1 or 2, else 0.
 pub fn judge(rules: &[u32], rule: u32) -> Answer<Verdict> {
     let rules = checked_rules(&lines_of_table(rules, RULES)?)?;
-    Ok(judged(&rules, rule).err().unwrap_or(0))
+    Ok(Judge::of(&rules).judged(rule).err().unwrap_or(0))
 }
 
-/// The rule of that number if it is there and sound, else verdict 1 or 2.
-pub fn judged(rules: &[Rule], number: u32) -> Result<&Rule, Verdict> {
-    let rule = (number as usize)
-        .checked_sub(1)
-        .and_then(|index| rules.get(index))
-        .ok_or(1)?;
-    if rule.is_sound() {
-        Ok(rule)
-    } else {
-        Err(2)
+/// Rules that are judged when they are first asked for, and not again: what is
+/// said of a rule depends on no circuit.
+pub struct Judge<'a> {
+    pub rules: &'a [Rule],
+    sound: Vec<OnceCell<bool>>,
+}
+
+impl<'a> Judge<'a> {
+    pub fn of(rules: &'a [Rule]) -> Judge<'a> {
+        Judge {
+            rules,
+            sound: vec![OnceCell::new(); rules.len()],
+        }
+    }
+
+    /// The rule of that number if it is there and sound, else verdict 1 or 2.
+    pub fn judged(&self, number: u32) -> Result<&'a Rule, Verdict> {
+        let index = (number as usize).checked_sub(1).ok_or(1)?;
+        let rule = self.rules.get(index).ok_or(1)?;
+        if *self.sound[index].get_or_init(|| rule.is_sound()) {
+            Ok(rule)
+        } else {
+            Err(2)
+        }
     }
 }
 
@@ -45,7 +62,8 @@ impl Rule {
         CONSTANTS + self.holes
     }
 
-    /// 01, Rules: both sides agree on every assignment, tried one by one.
+    /// 01, Rules: the sides agree on all assignments, which are tried one by
+    /// one, 1,024 of them if there are ten holes (02, 2026-07).
     pub fn is_sound(&self) -> bool {
         self.assignments().all(|bits| self.agrees_on(&bits))
     }

@@ -17,6 +17,7 @@ use evaluator::listing::counted;
 use evaluator::random::Random;
 use evaluator::refusal::{Answer, CIRCUIT, RULES, SITES};
 use evaluator::rewriting::{run, Run};
+use evaluator::rules::{checked_rules, MOST_HOLES};
 
 const CASES: u64 = 200;
 
@@ -45,6 +46,24 @@ fn every_verdict_and_every_refusal_occurs() {
     }
     assert_eq!(verdicts, (0..=6).collect());
     assert_eq!(refusals, FAULTS.into_iter().collect());
+}
+
+#[test]
+fn rules_of_every_number_of_holes_are_sound_and_unsound() {
+    let mut counts = [[0; 2]; 1 + MOST_HOLES as usize];
+    for case in cases() {
+        let lines = lines_of_text(counted(&case.rules), RULES);
+        for rule in lines
+            .and_then(|lines| checked_rules(&lines))
+            .iter()
+            .flatten()
+        {
+            counts[rule.holes][usize::from(rule.is_sound())] += 1;
+        }
+    }
+    let [none, ref some @ ..] = counts;
+    assert!(none[1] > 4, "{counts:?}");
+    assert!(some.iter().flatten().all(|&count| count > 4), "{counts:?}");
 }
 
 /// What the finder comes to for a case's rules and gates: at a limit that no

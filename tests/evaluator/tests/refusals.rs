@@ -99,7 +99,7 @@ fn rules_heads_and_line_counts_in_one_walk() {
         assert_eq!(judged(&[head]), refused(4, 2), "{head:?}");
     }
     for head in [
-        [7, 1, 0],
+        [11, 1, 0],
         [0, 0, 0],
         [0, 16, 0],
         [0, 1, 16],
@@ -118,11 +118,11 @@ fn rules_heads_and_line_counts_in_one_walk() {
 fn the_walk_meets_the_first_fault_first() {
     let short_then_bad = [[2, 0, 0], [1, 1, 1], [2, 2, 2], [3, 2, 0]];
     assert_eq!(judged(&short_then_bad), refused(5, 2));
-    let bad_after_good = [&[[2, 0, 0]], SQUARE, &[[7, 1, 0]]].concat();
+    let bad_after_good = [&[[2, 0, 0]], SQUARE, &[[11, 1, 0]]].concat();
     assert_eq!(judged(&bad_after_good), refused(4, 2));
     let missing_after_good = [&[[2, 0, 0]], SQUARE].concat();
     assert_eq!(judged(&missing_after_good), refused(5, 2));
-    let left_over = [&[[1, 0, 0]], SQUARE, &[[7, 1, 0]]].concat();
+    let left_over = [&[[1, 0, 0]], SQUARE, &[[11, 1, 0]]].concat();
     assert_eq!(judged(&left_over), refused(5, 2));
 }
 

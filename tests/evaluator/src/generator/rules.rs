@@ -10,7 +10,7 @@ const A: Kind = Kind::And;
 type Side = &'static [(Kind, usize, usize)];
 
 /// Sound rules: holes, left gates, right gates, closing reference.
-const STOCK: [(usize, Side, Side, usize); 19] = [
+const STOCK: [(usize, Side, Side, usize); 21] = [
     // ((v·w)·y)·z to (v·w)·(y·z)
     (
         4,
@@ -38,6 +38,71 @@ const STOCK: [(usize, Side, Side, usize); 19] = [
         &[(A, 2, 3), (A, 8, 4), (A, 9, 5), (A, 10, 6), (A, 11, 7)],
         &[(A, 2, 3), (A, 8, 4), (A, 5, 6), (A, 10, 7), (A, 9, 11)],
         12,
+    ),
+    // (((((((r·s)·t)·u)·v)·w)·x)·y)·z to ((r·s)·(t·u))·(((v·w)·(x·y))·z)
+    (
+        9,
+        &[
+            (A, 2, 3),
+            (A, 11, 4),
+            (A, 12, 5),
+            (A, 13, 6),
+            (A, 14, 7),
+            (A, 15, 8),
+            (A, 16, 9),
+            (A, 17, 10),
+        ],
+        &[
+            (A, 2, 3),
+            (A, 4, 5),
+            (A, 6, 7),
+            (A, 8, 9),
+            (A, 11, 12),
+            (A, 13, 14),
+            (A, 16, 10),
+            (A, 15, 17),
+        ],
+        18,
+    ),
+    // With p the product of all ten holes, one after another on the left, in
+    // pairs on the right: (((((p⊕q)·r)⊕s)·t)⊕u)·v to p⊕(((((q·r)⊕s)·t)⊕u)·v)
+    (
+        10,
+        &[
+            (A, 2, 3),
+            (A, 12, 4),
+            (A, 13, 5),
+            (A, 14, 6),
+            (A, 15, 7),
+            (A, 16, 8),
+            (A, 17, 9),
+            (A, 18, 10),
+            (A, 19, 11),
+            (X, 20, 2),
+            (A, 21, 3),
+            (X, 22, 4),
+            (A, 23, 5),
+            (X, 24, 6),
+            (A, 25, 7),
+        ],
+        &[
+            (A, 2, 3),
+            (A, 4, 5),
+            (A, 6, 7),
+            (A, 8, 9),
+            (A, 10, 11),
+            (A, 12, 13),
+            (A, 14, 15),
+            (A, 16, 17),
+            (A, 18, 19),
+            (A, 2, 3),
+            (X, 21, 4),
+            (A, 22, 5),
+            (X, 23, 6),
+            (A, 24, 7),
+            (X, 20, 25),
+        ],
+        26,
     ),
     // (v·w)⊕(v·y) to v·(w⊕y)
     (
@@ -113,7 +178,7 @@ fn any_rule(random: &mut Random) -> Rule {
     match random.below(21) {
         0..=8 => stock_variant(random),
         9..=11 => spoiled_variant(random),
-        12 => minterm_to_zero(random),
+        12 => differing_rule(random),
         13..=14 => random_rule(random),
         15..=16 => mirrored_rule(random),
         17 => symmetric_rule(random),
@@ -122,9 +187,13 @@ fn any_rule(random: &mut Random) -> Rule {
 }
 
 /// A rule in stock, its operands and holes in another order.
-pub fn stock_variant(random: &mut Random) -> Rule {
-    let stock = stock();
-    let rule = &stock[random.below(stock.len())];
+fn stock_variant(random: &mut Random) -> Rule {
+    variant(random, &stock())
+}
+
+/// One of the rules, its operands and holes in another order.
+fn variant(random: &mut Random, rules: &[Rule]) -> Rule {
+    let rule = &rules[random.below(rules.len())];
     let mixed = with_operands_mixed(random, rule);
     with_holes_mixed(random, &mixed)
 }
@@ -167,31 +236,40 @@ pub fn renamed(rule: &Rule, holes: usize, left: &[usize], right: &[usize]) -> Ru
     }
 }
 
-/// Gates for the product that is 1 on one assignment only, the first of them
-/// of reference `first`; the last is the product (1 if there are no holes).
-fn minterm(bits: &[bool], first: usize) -> (Vec<Gate>, usize) {
+/// A hole of a side and the bit that it is to have.
+type Literal = (usize, bool);
+
+/// The holes of an assignment with their bits.
+fn literals(bits: &[bool]) -> Vec<Literal> {
+    (CONSTANTS..).zip(bits.iter().copied()).collect()
+}
+
+/// Gates, the first of reference `first`, for the product that is 1 exactly if
+/// the holes have those bits, and its reference (1 if there are no holes).
+fn product(literals: &[Literal], first: usize) -> (Vec<Gate>, usize) {
     let mut gates = Vec::new();
     let mut append = |gate| {
         gates.push(gate);
         first + gates.len() - 1
     };
-    let mut product = 1;
-    for (&bit, hole) in bits.iter().zip(CONSTANTS..) {
-        let literal = if bit {
+    let mut product = None;
+    for &(hole, bit) in literals {
+        let factor = if bit {
             hole
         } else {
             append(Gate::new(X, hole, 1))
         };
-        product = append(Gate::new(A, literal, product));
+        product = Some(product.map_or(factor, |before| append(Gate::new(A, factor, before))));
     }
-    (gates, product)
+    (gates, product.unwrap_or(1))
 }
 
 /// A sound rule made unsound on exactly one assignment; none if that takes
 /// more right gates than there may be.
 pub fn spoiled(rule: &Rule, bits: &[bool]) -> Option<Rule> {
     let mut spoiled = rule.clone();
-    let (gates, product) = minterm(bits, rule.first_gate() + rule.right.len());
+    let first = rule.first_gate() + rule.right.len();
+    let (gates, product) = product(&literals(bits), first);
     spoiled.right.extend(gates);
     spoiled.right.push(Gate::new(X, rule.closing, product));
     spoiled.closing = rule.first_gate() + spoiled.right.len() - 1;
@@ -201,22 +279,50 @@ pub fn spoiled(rule: &Rule, bits: &[bool]) -> Option<Rule> {
 fn spoiled_variant(random: &mut Random) -> Rule {
     let rule = stock_variant(random);
     let bits = random_bits(random, rule.holes);
-    spoiled(&rule, &bits).unwrap_or_else(|| minterm_to_zero(random))
+    spoiled(&rule, &bits).unwrap_or_else(|| differing_rule(random))
 }
 
 fn random_bits(random: &mut Random, holes: usize) -> Vec<bool> {
     assignment(holes, random.below(1 << holes) as u32)
 }
 
-/// A product that is 1 on one assignment, to 0: unsound on that one only.
-fn minterm_to_zero(random: &mut Random) -> Rule {
-    let holes = random.between(1, MOST_HOLES as usize);
-    let bits = random_bits(random, holes);
-    Rule {
-        holes,
-        left: minterm(&bits, CONSTANTS + holes).0,
-        right: Vec::new(),
-        closing: 0,
+/// A rule of at least one hole that is unsound on exactly one assignment; none
+/// if that takes more left gates than there may be: if at least eight of ten
+/// bits are 0, or all of nine.
+///
+/// With p the product of all holes but one, v, that is 1 on the assignment: if
+/// v is 0 there, p·v to p, which spares the gate that would turn v round; else
+/// p·v to 0.
+pub fn differing(bits: &[bool]) -> Option<Rule> {
+    let first = CONSTANTS + bits.len();
+    let mut others = literals(bits);
+    let place = bits.iter().position(|bit| !bit).unwrap_or(0);
+    let (hole, bit) = others.remove(place);
+    let (gates, product) = product(&others, first);
+    let mut left = gates.clone();
+    left.push(Gate::new(A, product, hole));
+    let (right, closing) = if bit {
+        (Vec::new(), 0)
+    } else {
+        (gates, product)
+    };
+    let rule = Rule {
+        holes: bits.len(),
+        left,
+        right,
+        closing,
+    };
+    (rule.left.len() <= MOST_SIDE_GATES as usize).then_some(rule)
+}
+
+/// Such a rule of any assignment for which there is one.
+fn differing_rule(random: &mut Random) -> Rule {
+    loop {
+        let holes = random.between(1, MOST_HOLES as usize);
+        let bits = random_bits(random, holes);
+        if let Some(rule) = differing(&bits) {
+            return rule;
+        }
     }
 }
 
@@ -343,10 +449,12 @@ fn padded_variant(random: &mut Random) -> Rule {
     rule
 }
 
-/// A rule in stock, spoilt by a hole or a left gate that nothing on the left
-/// uses.
+/// A rule in stock that has room for it, spoilt by a hole or a left gate that
+/// nothing on the left uses.
 pub fn idle_variant(random: &mut Random) -> Rule {
-    let rule = stock_variant(random);
+    let mut rules = stock();
+    rules.retain(|rule| rule.left.len() < MOST_SIDE_GATES as usize);
+    let rule = variant(random, &rules);
     let idle_hole = rule.holes < MOST_HOLES as usize && random.chance(50);
     if idle_hole {
         with_idle_hole(random, &rule)

@@ -5,7 +5,7 @@ use crate::lines::LARGEST;
 use crate::matching::bindings;
 use crate::random::Random;
 use crate::rewriting::{improved, step};
-use crate::rules::{judged, Rule, Verdict};
+use crate::rules::{Judge, Rule, Verdict};
 use crate::sites::Site;
 
 /// A number that no rule and no reference has.
@@ -23,12 +23,13 @@ pub fn wished(
     count: usize,
     tries: usize,
 ) -> Vec<Site> {
+    let judge = Judge::of(rules);
     let mut current = circuit.trimmed();
     let mut sites = Vec::new();
     for _ in 0..count {
         let wish = random.pick(&WISHES);
-        let site = attempt(random, &current, rules, wish, tries);
-        step(&mut current, rules, site);
+        let site = attempt(random, &current, &judge, wish, tries);
+        step(&mut current, &judge, site);
         sites.push(site);
     }
     sites
@@ -38,24 +39,24 @@ pub fn wished(
 fn attempt(
     random: &mut Random,
     circuit: &Circuit,
-    rules: &[Rule],
+    judge: &Judge,
     wish: Verdict,
     tries: usize,
 ) -> Site {
-    let mut site = drawn(random, circuit, rules, wish);
+    let mut site = drawn(random, circuit, judge, wish);
     for _ in 1..tries {
-        if improved(circuit, rules, site).err().unwrap_or(0) == wish {
+        if improved(circuit, judge, site).err().unwrap_or(0) == wish {
             break;
         }
-        site = drawn(random, circuit, rules, wish);
+        site = drawn(random, circuit, judge, wish);
     }
     site
 }
 
 /// A site that might get the verdict: right in what is tested before it, of any
 /// sort in what is tested after it.
-fn drawn(random: &mut Random, circuit: &Circuit, rules: &[Rule], wish: Verdict) -> Site {
-    let rule = drawn_rule(random, rules.len(), wish == 1);
+fn drawn(random: &mut Random, circuit: &Circuit, judge: &Judge, wish: Verdict) -> Site {
+    let rule = drawn_rule(random, judge.rules.len(), wish == 1);
     let gate = match wish {
         1 | 2 => random.below(circuit.references() + 2),
         3 => drawn_non_gate(random, circuit),
@@ -63,7 +64,7 @@ fn drawn(random: &mut Random, circuit: &Circuit, rules: &[Rule], wish: Verdict) 
     };
     let mask = match wish {
         1..=4 => random.pick(&[0, 0, 1, 2, 3, 4, 5, 1 << 14, 1 << 15, FAR]),
-        _ => drawn_match(random, circuit, rules, rule, gate),
+        _ => drawn_match(random, circuit, judge, rule, gate),
     };
     Site {
         rule: rule as u32,
@@ -95,11 +96,11 @@ fn drawn_gate(random: &mut Random, circuit: &Circuit) -> usize {
 fn drawn_match(
     random: &mut Random,
     circuit: &Circuit,
-    rules: &[Rule],
+    judge: &Judge,
     rule: usize,
     gate: usize,
 ) -> usize {
-    let Ok(rule) = judged(rules, rule as u32) else {
+    let Ok(rule) = judge.judged(rule as u32) else {
         return 0;
     };
     let matching: Vec<usize> = (0..MASKS)
