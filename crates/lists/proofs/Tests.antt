@@ -1,6 +1,6 @@
 -- Tests as Bools. Assumes nothing.
 use mathlib.Core.Path.{_≡_, refl, sym}
-use mathlib.Core.Bool.{Bool, true, false, _&&_}
+use mathlib.Core.Bool.{Bool, true, false, true≢false, _&&_, _||_}
 
 -- two tests are one where each says what the other says
 pub same-test : (a b : Bool) → (a ≡ true → b ≡ true) → (b ≡ true → a ≡ true) → a ≡ b
@@ -20,3 +20,8 @@ pub right-of : (a b : Bool) → a && b ≡ true → b ≡ true
 right-of true b e = e
 right-of false true e = refl
 right-of false false e = e
+
+-- if a disjunction fails, so does its right side
+pub right-fails : (a b : Bool) → a || b ≡ false → b ≡ false
+right-fails true b e = absurd (true≢false e)
+right-fails false b e = e

@@ -1,10 +1,12 @@
 -- The call `translate`: its last test, and what a success says. Assumes nothing.
 use mathlib.Core.Path.{_≡_, sym, ap, ap₂, _∙_}
+use mathlib.Core.Bool.{not}
 use mathlib.Core.List.{List, [], _∷_, _++_}
 use Prim.Native.Nat.{ℕ, _≤_, _<_}
 use native.Mathlib.Omega.{arith}
 use lib.ListN.{length, getD}
-use borrow.Author.Tests.{lt-ltb, le-ltb, ltb-false}
+use borrow.Author.Tests.{lt-ltb, le-leb, le-ltb, ltb-false}
+use Rattle.lists.proofs.Tests.{both}
 use Rattle.lines.specs.declared.Refusal.{Refusal}
 use Rattle.lines.specs.Refusal.{refused, gives, noTable, leaving}
 use Rattle.lines.specs.Checks.{found, buffersAfter, afterwards}
@@ -15,12 +17,14 @@ use Rattle.circuit.specs.Table.{decode}
 use Rattle.circuit.specs.Refusal.{refusal}
 use Rattle.circuit.specs.Trim.{trim, trimOf}
 use Rattle.circuit.specs.WellFormed.{WellFormed}
+use Rattle.circuit.proofs.RefusalLaws.{whole, accepted-is-well-formed}
 use Rattle.circuit.proofs.ValidLaws.{valid-decode}
 use Rattle.circuit.proofs.TrimLaws.{trim-trim}
 use Rattle.circuit.proofs.TrimTheorems.{decode-trim}
+use Rattle.translator.specs.Machine.{maxRegisters}
 use Rattle.translator.specs.Need.{need}
 use Rattle.translator.specs.Program.{program, encodeProgram}
-use Rattle.translator.specs.TranslateCall.{translateChecks, needChecks, translated, translating}
+use Rattle.translator.specs.TranslateCall.{programNumbers, translateChecks, needChecks, translated, translating}
 
 -- ---- the last test and the work, of a trimmed circuit c, where n is the need
 
@@ -42,6 +46,20 @@ unfolding translating
 translation-accepted t limit buffer p =
     let c = trim (decode t) in
     ap (λ r. afterwards r buffer (over (encodeProgram (program c)) buffer)) (sym (answer-behind (needChecks limit c) (translateChecks t limit buffer) _ p))
+
+-- which they are by a table that is not refused, a long buffer and a limit from 1 to 1,024
+pub checks-pass : (t : List ℕ) (limit : ℕ) (buffer : List ℕ) → WellFormed t → programNumbers ≤ length buffer → 1 ≤ limit → limit ≤ maxRegisters
+    → Passed (translateChecks t limit buffer)
+checks-pass t limit buffer w room low high = (
+  check-passes _ 1 _ (whole t (w .sized)),
+  (
+    check-passes _ 2 _ (le-ltb _ _ room),
+    (
+      accepted-is-well-formed t .1 w,
+      (check-passes _ 9 _ (ap not (both (le-leb 1 limit low) (le-leb limit maxRegisters high))), tt),
+    ),
+  ),
+)
 
 -- trimming the trimmed table again changes nothing
 pub trimmed-again : (t : List ℕ) → WellFormed t → trim (decode (trimOf t)) ≡ decode (trimOf t)

@@ -1,16 +1,11 @@
 -- Demand 3: the rewriter and the translator together. Assumes nothing.
 use mathlib.Core.Path.{_≡_, refl, sym, ap, ap₂, subst, _∙_}
-use mathlib.Core.Bool.{true, false, not}
 use mathlib.Core.List.{List}
-use Prim.Native.Nat.{ℕ, _*_, _≤_}
+use Prim.Native.Nat.{ℕ, _*_}
 use lib.ListN.{length, take, getD, drop, replicate}
-use borrow.Author.Tests.{le-leb, le-ltb}
-use Rattle.lists.proofs.Tests.{both}
-use Rattle.lines.specs.Text.{isPartial}
 use Rattle.lines.specs.Refusal.{gives, noTable}
 use Rattle.lines.specs.Checks.{found}
 use Rattle.lines.specs.Calls.{over}
-use Rattle.lines.proofs.CheckLaws.{check-passes, Passed}
 use lib.Seq.{take-append-seam}
 use Rattle.rewriting.specs.Run.{finalState, handedBack, allVerdicts}
 use Rattle.circuit.specs.Circuit.{Circuit, firstGate, lineCount}
@@ -18,8 +13,7 @@ use Rattle.circuit.specs.Table.{inputs, decode, encode}
 use Rattle.circuit.specs.Evaluation.{startBits, evaluate}
 use Rattle.circuit.specs.Depth.{setLevels, startLevels, circuitDepth}
 use Rattle.circuit.specs.Trim.{trim}
-use Rattle.circuit.specs.Refusal.{refusal}
-use Rattle.circuit.proofs.RefusalLaws.{whole, accepted-is-well-formed}
+use Rattle.circuit.proofs.RefusalLaws.{accepted-is-well-formed}
 use Rattle.circuit.proofs.EncodingLaws.{encode-lines-length}
 use Rattle.circuit.proofs.FrontLaws.{front-is}
 use Rattle.circuit.proofs.TrimTheorems.{decode-trim}
@@ -28,15 +22,14 @@ use Rattle.rules.proofs.SiteLaws.{accepted-sites-are-well-formed}
 use Rattle.rewriting.specs.RewriteCall.{doneValues, rewriting}
 use Rattle.rewriting.specs.SafeRun.{SafeRun}
 use Rattle.rewriting.proofs.Theorems.{decode-encoded, run-is-safe, success-is-safe, success-leaves-table, success-is-bounded}
-use Rattle.translator.specs.Machine.{maxRegisters, run}
+use Rattle.translator.specs.Machine.{run}
 use Rattle.translator.specs.LeveledBit.{leveledOp, atLevels, startLeveled, runOn}
 use Rattle.translator.specs.Need.{need}
 use Rattle.translator.specs.Program.{program, encodeProgram, instructionsOf}
 use Rattle.translator.specs.Discipline.{Disciplined}
-use Rattle.translator.specs.TranslateCall.{isLimit, translateChecks}
 use Rattle.translator.specs.SafeDelivery.{SafeDelivery}
 use Rattle.translator.specs.Theorems.{DeliveryIsSafe, CallsDeliver}
-use Rattle.translator.proofs.CallLaws.{translation-accepted, needs-more, needs-no-more}
+use Rattle.translator.proofs.CallLaws.{needs-more, needs-no-more, translation-accepted, checks-pass}
 use Rattle.translator.proofs.Theorems.{program-emits-outputs, instructions-after-encode, translation-writes-need, translation-is-disciplined}
 
 -- ---- a run that is safe, and the table of the circuit that it hands back
@@ -81,9 +74,6 @@ delivery-is-safe circuit rules sites a b c bytes h =
 lines-long : (c : Circuit) → 3 * lineCount c ≡ length (encode c)
 lines-long c = sym (encode-lines-length c)
 
-within : (limit : ℕ) → 1 ≤ limit → limit ≤ maxRegisters → isLimit limit ≡ true
-within limit low high = both (le-leb 1 limit low) (le-leb limit maxRegisters high)
-
 pub calls-deliver : CallsDeliver
 unfolding doneValues
 calls-deliver circuit rules sites result work verdicts values e bytes h =
@@ -98,8 +88,6 @@ calls-deliver circuit rules sites result work verdicts values e bytes h =
     let kept : getD values 5 0 ≡ finalState circuit rules sites .kept = ap (λ l. getD l 5 0) v in
     let marked : rewriting circuit rules sites result work verdicts .buffers .verdicts ≡ over (allVerdicts circuit rules sites) verdicts = success-leaves-table circuit rules sites result work verdicts values e .1 in
     let left : rewriting circuit rules sites result work verdicts .buffers .result ≡ over t result = success-leaves-table circuit rules sites result work verdicts values e .0 in
-    let whole-table : isPartial 3 t ≡ false = whole t (safe .well-formed .sized) in
-    let accepted : refusal t ≡ 0 = accepted-is-well-formed t .1 (safe .well-formed) in
     let same : trim (decode t) ≡ c = fixed circuit rules sites safe in
     let loads : startLeveled (decode circuit) bytes ≡ startLeveled c bytes = same-loads circuit rules sites safe bytes in
     let p = program (trim (decode t)) in (
@@ -112,8 +100,7 @@ calls-deliver circuit rules sites result work verdicts values e bytes h =
       kept ∙ safe .kept-counts,
       rw v (success-is-bounded circuit rules sites result work verdicts _ _ _ _ _ _ (e ∙ ap gives v)),
       λ limit buffer room low high.
-          let passed : Passed (translateChecks t limit buffer) =
-          (check-passes _ 1 _ whole-table, (check-passes _ 2 _ (le-ltb _ _ room), (accepted, (check-passes _ 9 _ (ap not (within limit low high)), tt)))) in (
+          let passed = checks-pass t limit buffer (safe .well-formed) room low high in (
             λ more.
                 sym (needs-more (trim (decode t)) limit buffer (need c) (ap need (sym same)) more (found 10 noTable) refl ∙ translation-accepted t limit buffer passed),
             λ enough.

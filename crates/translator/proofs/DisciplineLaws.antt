@@ -93,6 +93,13 @@ load-is x e =
 no-operation : (x : Instruction) → isLoad x ≡ true → isOperation x ≡ false
 no-operation x e = rw (load-is x e .0)
 
+operation-no-load : (x : Instruction) → isOperation x ≡ true → isLoad x ≡ false
+operation-no-load x o = go (isLoad x) refl
+  where
+    go : (b : Bool) → isLoad x ≡ b → b ≡ false
+    go true e = absurd (true≢false (sym o ∙ no-operation x e))
+    go false e = refl
+
 instruction-same : (x y : Instruction) → x .opcode ≡ y .opcode → x .arg1 ≡ y .arg1 → x .arg2 ≡ y .arg2 → x .arg3 ≡ y .arg3 → x ≡ y
 instruction-same x y o d a b = λ i. record { opcode = o i; arg1 = d i; arg2 = a i; arg3 = b i }
 
@@ -208,11 +215,7 @@ module _ (c : Circuit) where
   following-operation : (past : Past) (x : Instruction) → isOperation x ≡ true
       → following c past x ≡ record { operations = suc (past .operations); history = taken (x .arg1) (firstGate (c .inputs) + past .operations) ∷ operandsFreed c past }
   unfolding following
-  following-operation past x o = rw (no-load (isLoad x) refl, o)
-    where
-      no-load : (b : Bool) → isLoad x ≡ b → isLoad x ≡ false
-      no-load true e = absurd (true≢false (sym o ∙ no-operation x e))
-      no-load false e = e
+  following-operation past x o = rw (operation-no-load x o, o)
 
   module _ (k : Trimmed c) (i : ℕ) (h : i < length (c .gates)) (s : Allocation) (a : Allocated (references c) (isReady c i i) (isUsedFrom c i) s) where
     abbrev g : Gate

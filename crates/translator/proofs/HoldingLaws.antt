@@ -33,7 +33,7 @@ module _ {A : Type 0} (op : ℕ → A → A → A) (z : A) (start : List A) (c :
         done = done;
         machine = record { registers = r; emitted = [] };
         reached = run .runs;
-        holds = λ v e. runs-read start op limit (value op z start c k long limit enough) s r run v (there v e);
+        holds = λ v e. runs-read start op limit (value op z start c k long) s r run v (there v e);
       }
 
   module _ (i : ℕ) (h : i < length (c .gates)) where

@@ -9,6 +9,7 @@ pub mod AllocatorLaws
 pub mod SizeLaws
 pub mod RunLaws
 pub mod FaultLaws
+pub mod AlongLaws
 pub mod ComputeLaws
 pub mod ActionLaws
 pub mod LoadLaws

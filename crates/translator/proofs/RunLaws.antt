@@ -3,20 +3,21 @@ use mathlib.Core.Path.{_≡_, refl, sym, ap, _∙_}
 use mathlib.Core.Logic.{inl, inr}
 use mathlib.Core.Bool.{Bool, true, false, _||_}
 use mathlib.Core.List.{List, [], _∷_, _++_, map, append-nil}
-use mathlib.Core.Option.{Option, none, some, bind}
+use mathlib.Core.Option.{Option, none, some, bind, bind-eq-some-iff, Option·none-ne-some, Option·some-injective}
 use Prim.Native.Nat.{ℕ, zero, suc, _≤_, _<_}
 use native.Mathlib.Nat.{not-suc-le-zero, le-of-suc-le-suc, suc-inj, suc-ne-zero}
 use native.Mathlib.Decide.{ℕ-discrete}
 use native.Mathlib.Omega.{arith}
-use lib.Dec.{eqb}
+use lib.Dec.{eqb, ltb}
 use lib.ListN.{length, getD, set, replicate, getElem?, length-set, length-replicate}
 use lib.Seq.{getD-set-same, getD-set-other, append-snoc}
-use borrow.Author.Tests.{lt-ltb}
+use borrow.Author.Tests.{lt-ltb, ltb-true}
+use Rattle.lists.specs.First.{first}
 use Rattle.circuit.specs.Circuit.{Gate, xorKind, andKind}
 use Rattle.circuit.specs.Path.{isAmong}
 use Rattle.circuit.proofs.RefusalLaws.{either}
 use Rattle.circuit.proofs.ValidLaws.{among-head, among-tail}
-use Rattle.translator.specs.Machine.{Instruction, loading, operating, emitting, Machine, emptyMachine, readFrom, execute, runFrom}
+use Rattle.translator.specs.Machine.{Instruction, loading, operating, emitting, isLoad, isOperation, isEmit, Machine, emptyMachine, readFrom, writeTo, emit, execute, runFrom}
 use Rattle.translator.specs.Fault.{Operates}
 use Rattle.translator.specs.Allocation.{Allocation, noRegisters, registerOf, nextRegister, ownersWith, assign, release, releaseOperands, loaded, operated}
 use Rattle.translator.specs.Program.{emits}
@@ -56,6 +57,50 @@ module _ {A : Type 0} (start : List A) (op : ℕ → A → A → A) where
       → execute start op (emitting a) m ≡ some (record { registers = m .registers; emitted = m .emitted ++ (x ∷ []) })
   unfolding execute bind
   emit-executes m a x e = rw e
+
+-- ---- what an instruction did that was no fault
+
+-- x was written into register d
+pub record Wrote {A : Type 0} (m m′ : Machine A) (d : ℕ) (x : A) : Type 0 where
+  pub inside : d < length (m .registers)
+  pub result : m′ ≡ record { registers = set (m .registers) d (some x); emitted = m .emitted }
+
+pub data Did {A : Type 0} (start : List A) (op : ℕ → A → A → A) (i : Instruction) (m m′ : Machine A) : Type 0 where
+  did-load : isLoad i ≡ true → (x : A) → getElem? start (i .arg2) ≡ some x → Wrote m m′ (i .arg1) x → Did start op i m m′
+  did-operation : isLoad i ≡ false → isOperation i ≡ true → (a b : A) → readFrom m (i .arg2) ≡ some a → readFrom m (i .arg3) ≡ some b
+      → Wrote m m′ (i .arg1) (op (i .opcode) a b) → Did start op i m m′
+  did-emit : isLoad i ≡ false → isOperation i ≡ false → isEmit i ≡ true → (a : A) → readFrom m (i .arg1) ≡ some a → emit m a ≡ m′ → Did start op i m m′
+
+module _ {A : Type 0} (start : List A) (op : ℕ → A → A → A) (i : Instruction) (m m′ : Machine A) where
+  write-wrote : (d : ℕ) (x : A) → writeTo m d x ≡ some m′ → Wrote m m′ d x
+  write-wrote d x e = go (ltb d (length (m .registers))) refl e
+    where
+      go : (b : Bool) → ltb d (length (m .registers)) ≡ b
+          → first b (some (record { registers = set (m .registers) d (some x); emitted = m .emitted })) none ≡ some m′ → Wrote m m′ d x
+      go true q f = record { inside = ltb-true d (length (m .registers)) q; result = sym (Option·some-injective _ m′ f) }
+      go false q f = absurd (Option·none-ne-some m′ f)
+
+  pub execute-did : execute start op i m ≡ some m′ → Did start op i m m′
+  unfolding execute
+  execute-did = go (isLoad i) (isOperation i) (isEmit i) refl refl refl
+    where
+      go : (l o e : Bool) → isLoad i ≡ l → isOperation i ≡ o → isEmit i ≡ e
+          → first l (bind (getElem? start (i .arg2)) (writeTo m (i .arg1)))
+          (first o (bind (readFrom m (i .arg2)) (λ a. bind (readFrom m (i .arg3)) (λ b. writeTo m (i .arg1) (op (i .opcode) a b))))
+          (first e (bind (readFrom m (i .arg1)) (λ a. some (emit m a)))
+          none)) ≡ some m′
+          → Did start op i m m′
+      go true o e p q r f =
+          let (x, s, t) = bind-eq-some-iff (getElem? start (i .arg2)) (writeTo m (i .arg1)) .0 f in
+          did-load p x s (write-wrote (i .arg1) x t)
+      go false true e p q r f =
+          let (a, s, t) = bind-eq-some-iff (readFrom m (i .arg2)) (λ a. bind (readFrom m (i .arg3)) (λ b. writeTo m (i .arg1) (op (i .opcode) a b))) .0 f in
+          let (b, u, w) = bind-eq-some-iff (readFrom m (i .arg3)) (λ b. writeTo m (i .arg1) (op (i .opcode) a b)) .0 t in
+          did-operation p q a b s u (write-wrote (i .arg1) (op (i .opcode) a b) w)
+      go false false true p q r f =
+          let (a, s, t) = bind-eq-some-iff (readFrom m (i .arg1)) (λ a. some (emit m a)) .0 f in
+          did-emit p q r a s (Option·some-injective (emit m a) m′ t)
+      go false false false p q r f = absurd (Option·none-ne-some m′ f)
 
 -- ---- an allocation's code, run
 
