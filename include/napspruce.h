@@ -134,17 +134,18 @@ uint64_t napspruce_rewrite(const uint32_t *circuit, size_t circuit_len, const ui
                            const uint32_t *sites, size_t sites_len, uint32_t *result, size_t result_len,
                            uint32_t *work, size_t work_len, uint8_t *verdicts, size_t verdicts_len);
 
-/* Trims the circuit and translates it to a program for a machine of `limit` registers, into `program`, of NAPSPRUCE_PROGRAM numbers at least,
- * four an instruction: (4, d, reference, 0) loads a constant or input into register d, an input at its starting level; (1, d, a, b) and
- * (2, d, a, b) put the XOR or AND of registers a and b into d, at the larger of their levels, AND one above it unless the last write
- * into a or b was the load of a constant; (3, a, 0, 0) emits register a. The highest level emitted is D. Gives the need and the number of
- * instructions. Every limit that is not below the need gives the same program: it writes exactly as many different registers as the need, and
- * their numbers are all below the need, so that memory for so many is enough. A circuit has one program: a holds the left operand, b the right;
- * of two operands to be loaded the left one comes first, and what only outputs use is loaded in their order; an operation frees the registers
- * of operands that it is the last to use, the left one's first, and then its result takes one; whatever is loaded or computed goes into the
- * register that became free most recently and is still free, or else into the lowest that has held nothing yet. So circuits that are equal when
- * trimmed have equal programs. Two programs are equal if they have as many instructions and memcmp finds no difference in these, 16 bytes each;
- * what lies behind them in the buffers is no part of them.
+/* Trims the circuit and translates it to a program for a machine of `limit` registers, into `program`, of NAPSPRUCE_PROGRAM numbers at least, four
+ * an instruction: (4, d, reference, 0) loads a constant or input into register d, an input at its starting level; (1, d, a, b) and (2, d, a, b) put
+ * the XOR or AND of registers a and b into d, at the larger of their levels, AND one above it unless the last write into a or b was the load of a
+ * constant; (3, a, 0, 0) emits register a. The highest level emitted is D. Gives the need and the number of instructions. Every limit that is not
+ * below the need gives the same program: it writes exactly as many different registers as the need, and their numbers are all below the need, so
+ * that memory for so many is enough. No program that does the same operations on the same references in the same order, loads no constant or input
+ * again once an operation has used it, and emits the outputs' references only when all is loaded and computed gets by with fewer. A circuit has one
+ * program: a holds the left operand, b the right; of two operands to be loaded the left one comes first, and what only outputs use is loaded in
+ * their order; an operation frees the registers of operands that it is the last to use, the left one's first, and then its result takes one;
+ * whatever is loaded or computed goes into the register that became free most recently and is still free, or else into the lowest that has held
+ * nothing yet. So circuits that are equal when trimmed have equal programs. Two programs are equal if they have as many instructions and memcmp
+ * finds no difference in these, 16 bytes each; what lies behind them in the buffers is no part of them.
  * Refusals: 1 of the circuit; 2; 4, 5, 11, 6, 7 of the circuit; 9; 10. */
 uint64_t napspruce_translate(const uint32_t *circuit, size_t circuit_len, uint32_t limit, uint32_t *program, size_t program_len);
 

@@ -1,5 +1,6 @@
 -- Tests as Bools. Assumes nothing.
 use mathlib.Core.Path.{_≡_, refl, sym}
+use mathlib.Core.Logic.{_⊎_, inl, inr}
 use mathlib.Core.Bool.{Bool, true, false, true≢false, _&&_, _||_}
 
 -- two tests are one where each says what the other says
@@ -21,7 +22,15 @@ right-of true b e = e
 right-of false true e = refl
 right-of false false e = e
 
--- if a disjunction fails, so does its right side
+-- a disjunction, taken apart: one of the two passes, or both fail
+pub one-of : (a b : Bool) → a || b ≡ true → (a ≡ true) ⊎ (b ≡ true)
+one-of true b e = inl refl
+one-of false b e = inr e
+
+pub left-fails : (a b : Bool) → a || b ≡ false → a ≡ false
+left-fails true b e = e
+left-fails false b e = refl
+
 pub right-fails : (a b : Bool) → a || b ≡ false → b ≡ false
 right-fails true b e = absurd (true≢false e)
 right-fails false b e = e

@@ -90,10 +90,10 @@ load-is x e =
     let b = eqb (x .arg3) 0 in
     (eqb-true (x .opcode) loadOpcode (left-of a b e), eqb-true (x .arg3) 0 (right-of a b e))
 
-no-operation : (x : Instruction) → isLoad x ≡ true → isOperation x ≡ false
+pub no-operation : (x : Instruction) → isLoad x ≡ true → isOperation x ≡ false
 no-operation x e = rw (load-is x e .0)
 
-operation-no-load : (x : Instruction) → isOperation x ≡ true → isLoad x ≡ false
+pub operation-no-load : (x : Instruction) → isOperation x ≡ true → isLoad x ≡ false
 operation-no-load x o = go (isLoad x) refl
   where
     go : (b : Bool) → isLoad x ≡ b → b ≡ false

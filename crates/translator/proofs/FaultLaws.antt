@@ -22,7 +22,7 @@ absent [] i e = omega arith
 absent (x ∷ l) zero e = absurd (Option·some-ne-none x e)
 absent (x ∷ l) (suc i) e = omega (arith, absent l i e)
 
-beyond : {A : Type 0} (l : List A) (i : ℕ) → length l ≤ i → getElem? l i ≡ none
+pub beyond : {A : Type 0} (l : List A) (i : ℕ) → length l ≤ i → getElem? l i ≡ none
 beyond [] i h = refl
 beyond (x ∷ l) zero h = absurd (omega arith)
 beyond (x ∷ l) (suc i) h = beyond l i (omega arith)

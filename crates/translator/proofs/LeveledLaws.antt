@@ -1,10 +1,10 @@
 -- The machine's bits and levels are the circuit's bits and depths: public values are where constants are read. Assumes nothing.
 use mathlib.Core.Path.{_≡_, refl, sym, ap, ap₂, _∙_}
-use mathlib.Core.Bool.{false, not, _&&_, _||_}
+use mathlib.Core.Bool.{false, not, _&&_, _||_, or-comm}
 use mathlib.Core.List.{List, [], _∷_, _++_, map, map-append}
 use mathlib.Core.Option.{some}
 use Prim.Native.Nat.{ℕ, zero, suc, _+_, _-_, _≤_, _<_, max}
-use native.Mathlib.Nat.{not-suc-le-zero, le-of-suc-le-suc}
+use native.Mathlib.Nat.{not-suc-le-zero, le-of-suc-le-suc, max-comm}
 use native.Mathlib.Decide.{decLt}
 use native.Mathlib.Omega.{arith}
 use lib.Dec.{eqb}
@@ -18,6 +18,7 @@ use Rattle.circuit.specs.Fold.{gateValue, foldGates, atOutputs}
 use Rattle.circuit.specs.Evaluation.{bitOp, bitOf, startBits, bits, evaluate}
 use Rattle.circuit.specs.Depth.{plusCounted, gateDepth, startLevels, depths, depth}
 use Rattle.circuit.proofs.StartLaws.{start-length}
+use Rattle.rules.proofs.ValueLaws.{gate-comm}
 use Rattle.rules.proofs.SoundnessLaws.{fold-map}
 use Rattle.translator.specs.LeveledBit.{LeveledBit, leveledOp, loadedFrom, atLevels, startLeveled}
 
@@ -141,3 +142,11 @@ module _ (c : Circuit) (bytes : List ℕ) (e : length bytes ≡ c .inputs) where
       (fold-levels (c .gates) (startLeveled c bytes) (omega (arith, leveled-length c bytes e))
       (public-start c bytes e) ∙ ap (appendEach gateDepth (c .gates)) (start-levels 0 (startBits bytes) (startLevels c) (starts-long c bytes e)))
       (c .outputs)
+
+-- operands can change places
+pub leveled-swaps : (kind : ℕ) (a b : LeveledBit) → leveledOp kind a b ≡ leveledOp kind b a
+leveled-swaps kind a b =
+    let level : first (eqb kind andKind && not (a .public || b .public)) (max (a .level) (b .level) + 1) (max (a .level) (b .level))
+    ≡ first (eqb kind andKind && not (b .public || a .public)) (max (b .level) (a .level) + 1) (max (b .level) (a .level))
+    = ap₂ (λ p l. first (eqb kind andKind && not p) (l + 1) l) (or-comm (a .public) (b .public)) (max-comm (a .level) (b .level)) in
+    ap₂ (λ x l. record { bit = x; level = l; public = false }) (gate-comm kind (a .bit) (b .bit)) level

@@ -21,6 +21,14 @@ pub mod HistoryLaws
 pub mod MomentLaws
 pub mod DisciplineLaws
 pub mod HoldingLaws
+pub mod SplitLaws
+pub mod KnownLaws
+pub mod RivalLaws
+pub mod FloorLaws
+pub mod OwnProgramLaws
+pub mod KnownRunLaws
+pub mod StillReadLaws
+pub mod RivalExamples
 pub mod LeveledLaws
 pub mod PublicLaws
 pub mod LastUseLaws

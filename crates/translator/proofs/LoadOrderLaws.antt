@@ -136,7 +136,7 @@ module _ (c : Circuit) where
 
 -- ---- which they are
 
-among-of : (v : ℕ) (xs : List ℕ) (b : Bool) → occurrences v xs ≡ oneIf b → isAmong v xs ≡ b
+pub among-of : (v : ℕ) (xs : List ℕ) (b : Bool) → occurrences v xs ≡ oneIf b → isAmong v xs ≡ b
 unfolding occurrences isAmong
 among-of v [] true e = absurd (omega arith)
 among-of v [] false e = refl

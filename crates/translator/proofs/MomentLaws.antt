@@ -105,7 +105,7 @@ module _ (c : Circuit) where
 
 -- ---- operations
 
-kinds-append : (is js : List Instruction) → operationKinds (is ++ js) ≡ operationKinds is ++ operationKinds js
+pub kinds-append : (is js : List Instruction) → operationKinds (is ++ js) ≡ operationKinds is ++ operationKinds js
 unfolding operationKinds
 kinds-append [] js = refl
 kinds-append (i ∷ is) js = go (isOperation i) (kinds-append is js)

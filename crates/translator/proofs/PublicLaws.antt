@@ -1,9 +1,9 @@
 -- A register is public from a load of a constant until it is overwritten. Assumes nothing.
-use mathlib.Core.Path.{_≡_, refl, sym, ap, _∙_}
+use mathlib.Core.Path.{_≡_, sym, ap, _∙_}
 use mathlib.Core.Bool.{Bool, _&&_, _||_}
 use mathlib.Core.List.{List, [], _∷_}
 use mathlib.Core.Option.{none, some, bind-eq-some-iff, Option·some-injective}
-use Prim.Native.Nat.{ℕ, zero, suc}
+use Prim.Native.Nat.{ℕ}
 use native.Mathlib.Decide.{ℕ-discrete}
 use lib.Dec.{eqb}
 use lib.ListN.{getD, set}
@@ -11,17 +11,12 @@ use lib.Seq.{getD-set-same, getD-set-other}
 use borrow.Author.Tests.{eq-eqb, ne-eqb}
 use Rattle.lists.specs.First.{first}
 use Rattle.circuit.specs.Circuit.{isConstant}
-use Rattle.translator.specs.Machine.{Instruction, isLoad, isOperation, Machine, emptyMachine, readFrom, execute, runFrom}
+use Rattle.translator.specs.Machine.{Instruction, isLoad, isOperation, Machine, readFrom, execute, runFrom}
 use Rattle.translator.specs.LeveledBit.{LeveledBit, leveledOp}
 use Rattle.translator.specs.PublicRegister.{isPublicAfter}
 use Rattle.translator.proofs.RunLaws.{Wrote, Did, did-load, did-operation, did-emit, execute-did}
 use Rattle.translator.proofs.FaultLaws.{full}
 use Rattle.translator.proofs.LeveledLaws.{noValue, PublicConstants}
-
-pub empty-register : (limit d : ℕ) → readFrom (emptyMachine {A = LeveledBit} limit) d ≡ none
-empty-register zero d = refl
-empty-register (suc limit) zero = refl
-empty-register (suc limit) (suc d) = empty-register limit d
 
 -- each full register has its mark
 abbrev Marks : Machine LeveledBit → (marks : ℕ → Bool) → Type 0

@@ -28,6 +28,11 @@ element-there [] z i h = absurd (not-suc-le-zero h)
 element-there (x ∷ l) z zero h = refl
 element-there (x ∷ l) z (suc i) h = element-there l z i (le-of-suc-le-suc h)
 
+pub empty-register : {A : Type 0} (limit d : ℕ) → readFrom (emptyMachine {A = A} limit) d ≡ none
+empty-register zero d = refl
+empty-register (suc limit) zero = refl
+empty-register (suc limit) (suc d) = empty-register limit d
+
 module _ {A : Type 0} (start : List A) (op : ℕ → A → A → A) where
   pub run-append : (is js : List Instruction) (m : Machine A) → runFrom start op (is ++ js) m ≡ bind (runFrom start op is m) (runFrom start op js)
   unfolding runFrom bind

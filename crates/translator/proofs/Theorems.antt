@@ -24,14 +24,16 @@ use Rattle.translator.specs.LeveledBit.{LeveledBit, leveledOp, loadedFro
 use Rattle.translator.specs.Need.{need}
 use Rattle.translator.specs.Actions.{operandLoads, actionsFrom}
 use Rattle.translator.specs.Program.{program, encodeProgram, instructionsOf}
+use Rattle.translator.specs.LastUse.{countDistinct}
 use Rattle.translator.specs.Written.{registersWritten}
+use Rattle.translator.specs.StillRead.{isStillRead}
 use Rattle.translator.specs.TranslateCall.{translating}
-use Rattle.translator.specs.Theorems.{RunWithinLimit, InstructionDoes, InstructionFaults, BitsAndLevels, PublicUntilOverwritten, InstructionsAfterEncode, LastUseDecides, PressureIsNeed, AllocatorIsProgram, ProgramComputes, ProgramEmitsOutputs, NeedIsSome, RegistersWithinNeed, ProgramWritesNeed, ProgramFollowsActions, ProgramCount, ActionsOperateInOrder, ActionsLoadOnce, ActionsLoadAtFirstUse, ActionsLoadForOutputs, ValuesAreHeld, ProgramIsDisciplined, OneProgram, DisciplinedRuns, TranslationRuns, TranslationWritesNeed, LimitChangesNothing, TranslationIsDisciplined, EqualCircuitsEqualPrograms}
+use Rattle.translator.specs.Theorems.{RunWithinLimit, InstructionDoes, InstructionFaults, BitsAndLevels, PublicUntilOverwritten, InstructionsAfterEncode, LastUseDecides, PressureIsNeed, AllocatorIsProgram, ProgramComputes, ProgramEmitsOutputs, NeedIsSome, RegistersWithinNeed, ProgramWritesNeed, ProgramFollowsActions, ProgramCount, ActionsOperateInOrder, ActionsLoadOnce, ActionsLoadAtFirstUse, ActionsLoadForOutputs, ValuesAreHeld, ProgramIsDisciplined, OneProgram, DisciplinedRuns, KnownIsHeld, OperandsChangePlaces, PlainIsRival, StillReadIsRead, FloorOfRegisters, NoFewerRegisters, ProgramIsRival, TranslationRuns, TranslationWritesNeed, LimitChangesNothing, TranslationIsDisciplined, EqualCircuitsEqualPrograms, TranslationIsFloor, RefusesNoRival}
 use Rattle.translator.proofs.CountLaws.{count-some, count-all}
 use Rattle.translator.proofs.TrimmedLaws.{trimmed-of}
 use Rattle.translator.proofs.PressureLaws.{linear-need, outputs-need, distinct-count}
 use Rattle.translator.proofs.OwnerLaws.{among-element}
-use Rattle.translator.proofs.RunLaws.{load-executes, operation-executes, emit-executes}
+use Rattle.translator.proofs.RunLaws.{empty-register, load-executes, operation-executes, emit-executes}
 use Rattle.translator.proofs.FaultLaws.{full, fault-executes, executes-fault}
 use Rattle.translator.proofs.ComputeLaws.{end-computes}
 use Rattle.translator.proofs.ActionLaws.{end-is-program}
@@ -39,13 +41,18 @@ use Rattle.translator.proofs.LoadLaws.{operations-actions, actions-spli
 use Rattle.translator.proofs.ShapeLaws.{program-shape, program-length, program-limit, encode-length, instructions-encode}
 use Rattle.translator.proofs.RegisterLaws.{run-within}
 use Rattle.translator.proofs.WrittenLaws.{written-used, program-writes}
-use Rattle.translator.proofs.LeveledLaws.{noValue, loaded-at, public-start, leveled-length, leveledOutputs, emitted-bits, emitted-levels}
-use Rattle.translator.proofs.PublicLaws.{empty-register, run-marks}
+use Rattle.translator.proofs.LeveledLaws.{noValue, leveled-swaps, loaded-at, public-start, leveled-length, leveledOutputs, emitted-bits, emitted-levels}
+use Rattle.translator.proofs.PublicLaws.{run-marks}
 use Rattle.translator.proofs.MomentLaws.{after-code}
 use Rattle.translator.proofs.DisciplineLaws.{disciplined-same, program-disciplined}
 use Rattle.translator.proofs.HoldingLaws.{holding-before, holding-after, holding-end}
 use Rattle.translator.proofs.LastUseLaws.{used-from}
-use Rattle.translator.proofs.CallLaws.{Translation, translation-is}
+use Rattle.translator.proofs.RivalLaws.{plain-rival}
+use Rattle.translator.proofs.FloorLaws.{floor, floor-limit, read-written}
+use Rattle.translator.proofs.OwnProgramLaws.{program-rival}
+use Rattle.translator.proofs.KnownRunLaws.{known-held}
+use Rattle.translator.proofs.StillReadLaws.{still-read, read-still}
+use Rattle.translator.proofs.CallLaws.{needs-no-more, translation-accepted, checks-pass, Translation, translation-is}
 
 -- ---- the machine
 
@@ -238,6 +245,43 @@ disciplined-runs t w p d =
           (es, ap (runOn (decode t) bytes limit) e ∙ r, bits, levels, top),
     )
 
+-- ---- no program with fewer registers
+
+pub known-is-held : KnownIsHeld
+unfolding trim
+known-is-held A op z start swap t w l limit p r kinds =
+    known-held op z start (trim (decode t)) (trimmed-of t w) l swap limit p r kinds
+
+pub operands-change-places : OperandsChangePlaces
+operands-change-places = leveled-swaps
+
+pub plain-is-rival : PlainIsRival
+plain-is-rival = plain-rival
+
+pub still-read-is-read : StillReadIsRead
+still-read-is-read d is = (still-read d is, λ (front, x, back, e, r, w). ap (isStillRead d) e ∙ read-still d front x back r w)
+
+pub floor-of-registers : FloorOfRegisters
+floor-of-registers t w limit p r =
+    let (before, behind, e, h) = floor (trim (decode t)) (trimmed-of t w) limit p r in
+    (before, behind, e, rw (program-writes-need t w .as-many) h)
+
+pub no-fewer-registers : NoFewerRegisters
+no-fewer-registers t w limit p r =
+    let c = trim (decode t) in
+    let (before, behind, e, h) = floor-of-registers t w limit p r in
+    (rw e (le-trans h (read-written c limit before behind)), floor-limit c (trimmed-of t w) limit p r)
+
+pub program-is-rival : ProgramIsRival
+program-is-rival t w limit h =
+    let c = trim (decode t) in (
+      program-rival c (trimmed-of t w) limit h,
+      λ before behind e.
+          let full = read-written c limit before behind in
+          let all : countDistinct (registersWritten (before ++ behind)) ≡ need c = ap (λ is. countDistinct (registersWritten is)) (sym e) ∙ program-writes-need t w .as-many in
+          omega arith,
+    )
+
 -- ---- the call
 
 module _ (t : List ℕ) (limit : ℕ) (buffer after : List ℕ) (count n : ℕ) (x : Translation t limit buffer after count n) where
@@ -288,3 +332,18 @@ equal-circuits-equal-programs t t′ limit limit′ buffer buffer′ after after
       x .needed ∙ ap need same ∙ sym (y .needed),
       numbers t limit buffer after count n x ∙ ap (λ c. encodeProgram (program c)) same ∙ sym (numbers t′ limit′ buffer′ after′ count′ n′ y),
     )
+
+pub translation-is-floor : TranslationIsFloor
+translation-is-floor t limit buffer after count n e =
+    let x = translation-is t limit buffer after count n e in
+    let w = accepted-is-well-formed t .0 (x .accepted) in (
+      rw (read-back t limit buffer after count n x) (program-is-rival t w limit (x .enough) .0),
+      λ other p r. rw (x .needed) (floor (trim (decode t)) (trimmed-of t w) other p r),
+    )
+
+pub refuses-no-rival : RefusesNoRival
+refuses-no-rival t a limit buffer room high p r =
+    let c = trim (decode t) in
+    let w = accepted-is-well-formed t .0 a in
+    let enough = no-fewer-registers t w limit p r .1 in
+    (_, _, sym (needs-no-more c limit buffer (need c) refl enough _ _ refl refl ∙ translation-accepted t limit buffer (checks-pass t limit buffer w room (le-trans (need-is-some t w) enough) high)))

@@ -1,7 +1,7 @@
 -- Which registers the program writes: all that its allocation has, and none that it does not use. Assumes nothing.
 use mathlib.Core.Path.{_≡_, refl, sym, ap, _∙_}
 use mathlib.Core.Bool.{Bool, true, false, _||_, or-true}
-use mathlib.Core.List.{List, [], _∷_, _++_, append-nil}
+use mathlib.Core.List.{List, [], _∷_, _++_, map, append-nil}
 use Prim.Native.Nat.{ℕ, zero, suc, _+_, _≤_, _<_}
 use native.Mathlib.Nat.{not-suc-le-zero}
 use native.Mathlib.Decide.{ℕ-discrete}
@@ -14,7 +14,7 @@ use Rattle.circuit.specs.Circuit.{Gate, Circuit, firstGate, noGate, xorKind, an
 use Rattle.circuit.specs.Path.{isAmong}
 use Rattle.circuit.specs.Refusal.{hasGateKind}
 use Rattle.circuit.proofs.EachLaws.{each-at}
-use Rattle.translator.specs.Machine.{Instruction, loading, operating, isLoad, isOperation, isEmit}
+use Rattle.translator.specs.Machine.{Instruction, loading, operating, emitting, isLoad, isOperation, isEmit}
 use Rattle.translator.specs.LiveRange.{isUsedFrom}
 use Rattle.translator.specs.Need.{need}
 use Rattle.translator.specs.Allocation.{Allocation, registerOf, nextRegister, ownersWith, assign, releaseOperands, loaded, operated}
@@ -28,7 +28,7 @@ use Rattle.translator.proofs.AllocatorLaws.{releases-size, end-size}
 use Rattle.translator.proofs.ActionLaws.{end-is-program}
 use Rattle.translator.proofs.ShapeLaws.{releases-code}
 
-written-append : (xs ys : List Instruction) → registersWritten (xs ++ ys) ≡ registersWritten xs ++ registersWritten ys
+pub written-append : (xs ys : List Instruction) → registersWritten (xs ++ ys) ≡ registersWritten xs ++ registersWritten ys
 unfolding registersWritten
 written-append [] ys = refl
 written-append (x ∷ xs) ys = go (isWrite x) (written-append xs ys)
@@ -104,10 +104,11 @@ wrote-operate w v g s k h =
     wrote-assign v make (λ d. (ap (λ b. isLoad (make d) || b) k ∙ or-true (isLoad (make d)), refl)) (releaseOperands w g s)
     (λ e l. ap (λ is. isAmong e (registersWritten is)) (releases-code w g s) ∙ h e (omega (arith, releases-size w g s)))
 
-emits-write : (ws os : List ℕ) → registersWritten (emits ws os) ≡ []
+-- emits write nothing, of whichever registers
+pub emits-write : (register : ℕ → ℕ) (os : List ℕ) → registersWritten (map (λ o. emitting (register o)) os) ≡ []
 unfolding registersWritten
-emits-write ws [] = refl
-emits-write ws (o ∷ os) = emits-write ws os
+emits-write register [] = refl
+emits-write register (o ∷ os) = emits-write register os
 
 module _ (c : Circuit) (k : Trimmed c) where
   wrote-after : (i : ℕ) → i ≤ length (c .gates) → Wrote (allocationAfter c i)
@@ -130,6 +131,6 @@ module _ (c : Circuit) (k : Trimmed c) where
   program-writes d h =
       let s = allocationAtEnd c in
       ap (λ is. isAmong d (registersWritten is)) (sym (end-is-program c k))
-      ∙ ap (isAmong d) (written-append (s .code) (emits (s .owners) (c .outputs)) ∙ ap (λ l. registersWritten (s .code) ++ l) (emits-write (s .owners) (c .outputs))
+      ∙ ap (isAmong d) (written-append (s .code) (emits (s .owners) (c .outputs)) ∙ ap (λ l. registersWritten (s .code) ++ l) (emits-write (registerOf (s .owners)) (c .outputs))
       ∙ append-nil (registersWritten (s .code)))
       ∙ wrote-outputs (length (c .outputs)) d (omega (arith, end-size c k))

@@ -18,6 +18,9 @@ pub mod LoadOrder
 pub mod History
 pub mod Discipline
 pub mod Moment
+pub mod Known
+pub mod Rival
+pub mod StillRead
 pub mod TranslateCall
 pub mod SafeDelivery
 pub mod Theorems

@@ -36,6 +36,11 @@ unfoldable pub operationKinds : List Instruction → List ℕ
 operationKinds [] = []
 operationKinds (i ∷ is) = first (isOperation i) (i .opcode ∷ operationKinds is) (operationKinds is)
 
+-- the references that are loaded, in order, each as often as it is
+unfoldable pub loadedBy : List Instruction → List ℕ
+loadedBy [] = []
+loadedBy (i ∷ is) = first (isLoad i) (i .arg2 ∷ loadedBy is) (loadedBy is)
+
 -- how many times v is in a list
 unfoldable pub occurrences : (v : ℕ) → List ℕ → ℕ
 occurrences v [] = 0

@@ -5,7 +5,7 @@ use mathlib.Core.Path.{_≡_}
 use mathlib.Core.Logic.{_↔_}
 use mathlib.Core.Bool.{true, false, _&&_, _||_}
 use mathlib.Core.List.{List, [], _∷_, _++_, map}
-use mathlib.Core.Option.{none, some}
+use mathlib.Core.Option.{none, some, Option·map}
 use lib.Bits.{bitAnd, bitXor}
 use lib.Dec.{eqb, ltb}
 use lib.ListN.{length, take, getD, set, replicate, getElem?}
@@ -25,20 +25,23 @@ use Rattle.rules.specs.SiteTable.{siteCount, sitesRefusal}
 use Rattle.rewriting.specs.Run.{zeros, handedBack, allVerdicts}
 use Rattle.rewriting.specs.RewriteCall.{rewriting}
 use Rattle.translator.specs.Machine.{Instruction, emitOpcode, loadOpcode, emitting, Machine, emptyMachine, maxRegisters, readFrom, execute, runFrom, run}
-use Rattle.translator.specs.Fault.{numbers, Operates, Holds, Fault}
+use Rattle.translator.specs.Fault.{numbers, Operates, Reads, Holds, Fault}
 use Rattle.translator.specs.LeveledBit.{LeveledBit, leveledOp, startLeveled, runOn}
 use Rattle.translator.specs.LiveRange.{isUsedFrom, isConstantOrInput, isHeldBefore, isHeldAfter, isHeldAtEnd}
 use Rattle.translator.specs.Need.{countBelow, need}
 use Rattle.translator.specs.Actions.{Action, operate, isUnloaded, operandLoads, outputLoads, actions, loadsOf, operationsOf}
 use Rattle.translator.specs.Program.{program, withEmits, encodeProgram, instructionsOf, maxInstructions}
-use Rattle.translator.specs.LastUse.{lastUse}
+use Rattle.translator.specs.LastUse.{lastUse, countDistinct}
 use Rattle.translator.specs.Pressure.{oneIf, linearNeed}
 use Rattle.translator.specs.Allocator.{allocationAfter, allocationBefore, allocationAtEnd}
-use Rattle.translator.specs.Shape.{withoutRegisters, instructionOf, registersIn, occurrences}
-use Rattle.translator.specs.Written.{WritesExactly}
+use Rattle.translator.specs.Shape.{withoutRegisters, instructionOf, registersIn, operationKinds, occurrences}
+use Rattle.translator.specs.Written.{registersWritten, WritesExactly}
 use Rattle.translator.specs.PublicRegister.{isPublicAfter}
 use Rattle.translator.specs.Discipline.{Disciplined}
 use Rattle.translator.specs.Moment.{Holding}
+use Rattle.translator.specs.Known.{knownOf}
+use Rattle.translator.specs.Rival.{PlainRival, EachAllowed, Rival}
+use Rattle.translator.specs.StillRead.{isStillRead, stillToBeRead}
 use Rattle.translator.specs.TranslateCall.{programNumbers, isLimit, translating}
 use Rattle.translator.specs.SafeDelivery.{SafeDelivery}
 
@@ -226,6 +229,62 @@ DisciplinedRuns =
     × (map (λ b. b .level) emitted ≡ map (depth (decode t)) (decode t .outputs))
     × (largest (map (λ b. b .level) emitted) ≡ circuitDepth (decode t)))
 
+-- ---- 02, 2026-08: no program with fewer registers
+
+-- What is known of the registers is true: at each moment that 01's machine comes to, a register holds the value of the reference that it is known by,
+-- and is empty if it is known by none. Each instruction is one that a rival may have there, and the operations are of the gates' kinds; what is
+-- computed gate by gate may be anything in which operands can change places.
+abbrev pub KnownIsHeld : Type 1
+KnownIsHeld =
+    (A : Type 0) (op : ℕ → A → A → A) (z : A) (start : List A) → ((kind : ℕ) (a b : A) → op kind a b ≡ op kind b a)
+    → (t : List ℕ) → WellFormed t → length start ≡ firstGate (inputs t)
+    → (limit : ℕ) (p : List Instruction) → EachAllowed (trim (decode t)) limit p → operationKinds p ≡ map (λ g. g .kind) (trim (decode t) .gates)
+    → (before behind : List Instruction) → p ≡ before ++ behind → (m : Machine A) → runFrom start op before (emptyMachine limit) ≡ some m
+    → (d : ℕ)
+    → readFrom m d
+    ≡ Option·map (λ v. getD (foldGates op z (trim (decode t) .gates) start) v z) (getD (knownOf (trim (decode t)) limit before .registers) d none)
+
+-- 01's bits and levels are such.
+abbrev pub OperandsChangePlaces : Type 0
+OperandsChangePlaces = (kind : ℕ) (a b : LeveledBit) → leveledOp kind a b ≡ leveledOp kind b a
+
+-- 02's rivals are rivals: whatever is said of these holds of those.
+abbrev pub PlainIsRival : Type 0
+PlainIsRival = (c : Circuit) (limit : ℕ) (p : List Instruction) → PlainRival c limit p → Rival c limit p
+
+-- A register is still to be read exactly if a later instruction reads it, and none before that one writes it. `Reads` is as 01's causes of faults have it.
+abbrev pub StillReadIsRead : Type 0
+StillReadIsRead =
+    (d : ℕ) (is : List Instruction)
+    → (isStillRead d is ≡ true)
+    ↔ ((front : List Instruction) × (x : Instruction) × (back : List Instruction)
+    × (is ≡ front ++ (x ∷ back)) × Reads (x .opcode) (x .arg1) (x .arg2) (x .arg3) d × (isAmong d (registersWritten front) ≡ false))
+
+-- 5: every rival, on whichever machine, has a moment at which at least as many registers are full and still to be read as the translator's program
+-- writes, which is the need (`ProgramWritesNeed`).
+abbrev pub FloorOfRegisters : Type 0
+FloorOfRegisters =
+    (t : List ℕ) → WellFormed t → (limit : ℕ) (p : List Instruction) → Rival (trim (decode t)) limit p
+    → (before behind : List Instruction)
+    × (p ≡ before ++ behind)
+    × (countDistinct (registersWritten (program (trim (decode t)))) ≤ stillToBeRead (trim (decode t)) limit before behind)
+
+-- 1: so no rival writes fewer different registers, and there is none for a machine with fewer registers than the need.
+abbrev pub NoFewerRegisters : Type 0
+NoFewerRegisters =
+    (t : List ℕ) → WellFormed t → (limit : ℕ) (p : List Instruction) → Rival (trim (decode t)) limit p
+    → (countDistinct (registersWritten (program (trim (decode t)))) ≤ countDistinct (registersWritten p))
+    × (need (trim (decode t)) ≤ limit)
+
+-- The translator's program is a rival in 02's own words, on every machine with as many registers as the need; and the floor is met: at no moment are more
+-- registers full and still to be read than the need.
+abbrev pub ProgramIsRival : Type 0
+ProgramIsRival =
+    (t : List ℕ) → WellFormed t → (limit : ℕ) → need (trim (decode t)) ≤ limit
+    → PlainRival (trim (decode t)) limit (program (trim (decode t)))
+    × ((before behind : List Instruction) → program (trim (decode t)) ≡ before ++ behind
+    → stillToBeRead (trim (decode t)) limit before behind ≤ need (trim (decode t)))
+
 -- ---- the call
 
 -- What a success answers with is the need and a program at the front of the buffer, which on a machine with that limit emits the outputs'
@@ -268,6 +327,23 @@ EqualCircuitsEqualPrograms =
     → translating t limit buffer ≡ leaving (gives (count ∷ n ∷ [])) after
     → translating t′ limit′ buffer′ ≡ leaving (gives (count′ ∷ n′ ∷ [])) after′
     → (count ≡ count′) × (n ≡ n′) × (take (4 * count) after ≡ take (4 * count′) after′)
+
+-- 02, 2026-08: what a success leaves is a rival, and the need that is answered is a floor under all rivals.
+abbrev pub TranslationIsFloor : Type 0
+TranslationIsFloor =
+    (t : List ℕ) (limit : ℕ) (buffer after : List ℕ) (count n : ℕ)
+    → translating t limit buffer ≡ leaving (gives (count ∷ n ∷ [])) after
+    → PlainRival (trim (decode t)) limit (instructionsOf count after)
+    × ((other : ℕ) (p : List Instruction) → Rival (trim (decode t)) other p
+    → (before behind : List Instruction) × (p ≡ before ++ behind) × (n ≤ stillToBeRead (trim (decode t)) other before behind))
+
+-- More than 02, 2026-08, asks: of a circuit that is not refused, with a limit up to 1,024 and a buffer that is long enough, `translate` gives a program
+-- wherever there is a rival for that limit. So it pleads 10 only if there is none.
+abbrev pub RefusesNoRival : Type 0
+RefusesNoRival =
+    (t : List ℕ) → refusal t ≡ 0 → (limit : ℕ) (buffer : List ℕ) → programNumbers ≤ length buffer → limit ≤ maxRegisters
+    → (p : List Instruction) → Rival (trim (decode t)) limit p
+    → (count : ℕ) × (after : List ℕ) × (translating t limit buffer ≡ leaving (gives (count ∷ need (trim (decode t)) ∷ [])) after)
 
 -- ---- demand 3
 
