@@ -55,7 +55,7 @@
 #define NAPSPRUCE_CRITICAL(r) ((uint32_t)(r))
 
 /* The results of napspruce_find: the outcome, which is NAPSPRUCE_MASK_FOUND, a verdict from 1 to 3, NAPSPRUCE_NO_MASK or NAPSPRUCE_SPENT; the
- * mask; and the ways. */
+ * mask; and the ways tried. */
 #define NAPSPRUCE_OUTCOME(r) ((uint32_t)((r) >> 16 & 65535))
 #define NAPSPRUCE_MASK(r) ((uint32_t)((r) & 65535))
 #define NAPSPRUCE_WAYS(r) ((uint32_t)((r) >> 32))
@@ -113,14 +113,12 @@ uint64_t napspruce_match(const uint32_t *circuit, size_t circuit_len, const uint
 
 /* Looks for the mask by which a rule matches at a gate of the trimmed circuit. Left gates are tried from the last to the first, each as it is
  * written, then crosswise; what is left of the rule is tried from there, if that gate's part of the match holds. Each such trial is one way,
- * also one that fails, and the search goes on behind a match until no trial is left. `limit` is the most ways that it may have, from 1 to 65,535;
- * a rule of n left gates takes 2 to the power n + 1, less 2, at most, so that 65,535 is always enough, and 2 at least, so that 1 never is. Gives
- * one of
- *   NAPSPRUCE_MASK_FOUND, the mask with the fewest 1 bits of all that match, among those the smallest, and the ways of the search: napspruce_match
- *   gives 0 for that mask, and 4 for every mask with fewer 1 bits and for every smaller one with as many;
+ * also one that fails, and the search ends at its first match. `limit` is the most ways that it may have, from 1 to 65,535; a rule of n left
+ * gates takes 2 to the power n + 1, less 2, at most, so that 65,535 is always enough. Gives one of
+ *   NAPSPRUCE_MASK_FOUND, the smallest mask that matches, and the ways tried: napspruce_match gives 0 for that mask, 4 for every smaller one;
  *   1, 2 or 3 as napspruce_match does, whatever the mask, with mask 0 and 0 ways;
- *   NAPSPRUCE_NO_MASK, mask 0 and the ways of the search: napspruce_match gives 4 for every mask;
- *   NAPSPRUCE_SPENT, mask 0 and the limit: the search has more ways than that, whether or not a mask matches.
+ *   NAPSPRUCE_NO_MASK, mask 0 and the ways tried: napspruce_match gives 4 for every mask;
+ *   NAPSPRUCE_SPENT, mask 0 and the limit: the search has more ways than that.
  * Refusals: 1 of the circuit, 1 of the rules; 4, 5, 11, 6, 7 of the circuit; 4 to 8 of the rules; 12. */
 uint64_t napspruce_find(const uint32_t *circuit, size_t circuit_len, const uint32_t *rules, size_t rules_len,
                         uint32_t rule, uint32_t gate, uint32_t limit);

@@ -62,18 +62,18 @@ impl<'a> Job<'a> {
     }
 }
 
-/// The jobs on the workloads of one size: the last two are searched, the other
-/// five are rewritten; the first is for the other calls too, the one with
-/// starting lines is also measured and translated, and the one with the largest
-/// rule judged and matched.
-pub fn of_workloads(workloads: &[Workload; 7]) -> Vec<Job<'_>> {
-    let [random, levels, chain, mismatch, wide, doubled, ranked] = workloads;
+/// The jobs on the workloads of one size: the last is searched, the other five
+/// are rewritten; the first is for the other calls too, the one with starting
+/// lines is also measured and translated, and the one with the largest rule
+/// judged and matched.
+pub fn of_workloads(workloads: &[Workload; 6]) -> Vec<Job<'_>> {
+    let [random, levels, chain, mismatch, wide, doubled] = workloads;
     let mut jobs = Vec::from(line_jobs(random));
     jobs.extend([measuring_job(random), measuring_job(levels)]);
     jobs.push(evaluating_job(random));
     jobs.extend([translating_job(random), translating_job(levels)]);
     jobs.extend([random, wide].into_iter().flat_map(rule_jobs));
-    jobs.extend([random, doubled, ranked].map(finding_job));
+    jobs.extend([random, doubled].map(finding_job));
     jobs.extend([random, levels, chain, mismatch, wide].map(rewriting_job));
     jobs.extend([random, chain, mismatch].map(listing_job));
     jobs

@@ -36,7 +36,7 @@ pub struct Form {
 }
 
 /// All workloads of one size.
-pub fn of_size(gates: usize) -> [Workload; 7] {
+pub fn of_size(gates: usize) -> [Workload; 6] {
     [
         random(gates),
         levels(gates),
@@ -44,7 +44,6 @@ pub fn of_size(gates: usize) -> [Workload; 7] {
         mismatch(gates),
         wide(gates),
         doubled(gates),
-        ranked(gates),
     ]
 }
 
@@ -113,36 +112,25 @@ pub fn wide(gates: usize) -> Workload {
     Workload::new("wide", &mut random, circuit, listed([largest()]), sites)
 }
 
-/// A rule that has as many ways to be searched for as there can be, none of
-/// which leads to a match: its first gate is a hole times itself, and the
-/// circuit's gate there has two operands. It fails both ways, at the last of all
-/// pairings.
-pub fn doubled(gates: usize) -> Workload {
-    squaring("doubled", gates, MOST_SIDE_GATES - 1)
-}
-
-/// The same with one more gate of equal operands in the circuit: the rule
-/// matches with all masks that there can be, which are ranked.
-pub fn ranked(gates: usize) -> Workload {
-    squaring("ranked", gates, MOST_SIDE_GATES)
-}
-
 /// A chain of ANDs, but for its end, with a rule of as many left gates as there
-/// may be. All but its first gate have the one before them as both operands, and
-/// so have so many of the circuit's last ones: each is followed as written and
-/// crosswise.
-fn squaring(name: &'static str, gates: usize, squared: usize) -> Workload {
+/// may be that has as many ways to be searched for there as there can be. All
+/// but its first gate have the one before them as both operands, and so have
+/// the circuit's last ones: each is followed as written and crosswise. The
+/// first is a hole times itself, and the circuit's gate there has two operands:
+/// it fails both ways, at the last of all pairings.
+pub fn doubled(gates: usize) -> Workload {
     let mut random = Random::new(gates);
     let mut circuit = chain_circuit(gates);
     let end = first_gate(&circuit) + gates;
-    circuit.splice(1 + gates - squared..1 + gates, squares(end - squared..end));
+    let above = MOST_SIDE_GATES - 1;
+    circuit.splice(1 + gates - above..1 + gates, squares(end - above..end));
     // Of one hole, and closing on it.
     let first = CONSTANTS + 1;
     let left: Vec<Line> = squares(first..first + MOST_SIDE_GATES).collect();
     let rules = listed([rule(1, &left, &[])]);
     // The last gate, the dead one having been trimmed away.
     let sites = vec![[1, end as u32 - 2, 0]];
-    Workload::new(name, &mut random, circuit, rules, sites)
+    Workload::new("doubled", &mut random, circuit, rules, sites)
 }
 
 impl Workload {

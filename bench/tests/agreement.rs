@@ -10,10 +10,9 @@ use common::{
 };
 
 use bench::plain::circuit::{CIRCUIT_NUMBERS, MOST_OUTPUTS};
-use bench::plain::finding::{Found, MASK, MOST_WAYS, SPENT};
+use bench::plain::finding::MOST_WAYS;
 use bench::plain::listing::LISTING_BYTES;
 use bench::plain::refusal::{Answer, Refusal};
-use bench::plain::rules::MOST_SIDE_GATES;
 use bench::plain::sites::MOST_SITES;
 use bench::plain::translation::PROGRAM_NUMBERS;
 use bench::plain::{
@@ -74,23 +73,13 @@ fn length(random: &mut Random, least: usize) -> usize {
     }
 }
 
-/// Whether a search is seen to have passed over a match: that of a smaller mask,
-/// or, if it is spent, that of mask 0, which takes as many ways as left gates.
-fn passed_over(found: Found, matches: impl Fn(u32) -> bool) -> bool {
-    match found.outcome {
-        MASK => (0..found.mask).any(matches),
-        SPENT => found.ways as usize >= MOST_SIDE_GATES && matches(0),
-        _ => false,
-    }
-}
-
 /// The refusals of each call that have been seen, as number and table; a
 /// success is seen as (0, 0).
 #[derive(Default)]
 struct Seen {
     outcomes: BTreeMap<&'static str, BTreeSet<(u32, u32)>>,
-    /// The finder's outcomes, and whether a match is seen to be passed over.
-    found: BTreeSet<(u8, bool)>,
+    /// The finder's outcomes.
+    found: BTreeSet<u8>,
 }
 
 impl Seen {
@@ -166,12 +155,10 @@ impl Seen {
         let plain = |limit| finding::find_mask(circuit, rules, rule, gate, limit);
         let ways = plain(MOST_WAYS).map_or(1, |found| found.ways.max(1));
         let near = random.pick(&[ways - 1, ways, ways + 1]);
-        let matches = |mask| matching::match_site(circuit, rules, rule, gate, mask) == Ok(0);
         for limit in [near, MOST_WAYS, random.pick(&ODD)] {
             let answer = plain(limit);
             assert_eq!(answer, slow_find(circuit, rules, [rule, gate, limit]));
-            self.found
-                .extend(answer.map(|found| (found.outcome, passed_over(found, matches))));
+            self.found.extend(answer.map(|found| found.outcome));
             self.note("find", answer);
         }
     }
@@ -248,9 +235,7 @@ impl Seen {
         ];
         let expected = expected.map(|(call, parts)| (call, parts.concat().into_iter().collect()));
         assert_eq!(self.outcomes, expected.into_iter().collect());
-        let found = (0..=5).map(|outcome| (outcome, false));
-        let found = found.chain([(MASK, true), (SPENT, true)]);
-        assert_eq!(self.found, found.collect());
+        assert_eq!(self.found, (0..=5).collect());
     }
 }
 

@@ -24,9 +24,8 @@ pub struct Found {
     pub ways: u32,
 }
 
-/// Finds the plainest mask with which a rule matches at a gate of the trimmed
-/// circuit: of those with the fewest 1 bits the smallest. All ways are tried, or
-/// as many as the limit if there are more.
+/// Finds the smallest mask with which a rule matches at a gate of the trimmed
+/// circuit, in no more ways than the limit.
 pub fn find_mask(
     circuit: &[u32],
     rules: &[u32],
@@ -53,9 +52,10 @@ struct Search<'a> {
     rule: Rule<'a>,
     limit: u32,
     ways: u32,
-    /// The 1 bits of the plainest mask that has matched so far, and that mask.
-    plainest: Option<(u32, u32)>,
 }
+
+/// An outcome and its mask, at which a search ends before all is tried.
+type End = (u8, u32);
 
 impl<'a> Search<'a> {
     fn new(circuit: Circuit<'a>, rule: Rule<'a>, limit: u32) -> Self {
@@ -65,17 +65,14 @@ impl<'a> Search<'a> {
             rule,
             limit,
             ways: 0,
-            plainest: None,
         }
     }
 
     fn at(mut self, gate: usize) -> Found {
         let bound = root_bound(self.rule, gate);
-        let done = self.below(self.rule.left.len(), 0, &bound);
-        let (outcome, mask) = match (done, self.plainest) {
-            (ControlFlow::Break(()), _) => (SPENT, 0),
-            (ControlFlow::Continue(()), Some((_, mask))) => (MASK, mask),
-            (ControlFlow::Continue(()), None) => (NONE, 0),
+        let (outcome, mask) = match self.below(self.rule.left.len(), 0, &bound) {
+            ControlFlow::Break(end) => end,
+            ControlFlow::Continue(()) => (NONE, 0),
         };
         Found {
             outcome,
@@ -85,15 +82,14 @@ impl<'a> Search<'a> {
     }
 
     /// Tries so many of the left gates that are first in line order, the last
-    /// of them before the others; breaks off when the ways are spent.
-    fn below(&mut self, left: usize, mask: u32, bound: &Bindings) -> ControlFlow<()> {
+    /// of them before the others.
+    fn below(&mut self, left: usize, mask: u32, bound: &Bindings) -> ControlFlow<End> {
         let Some(index) = left.checked_sub(1) else {
-            self.rank(mask);
-            return ControlFlow::Continue(());
+            return ControlFlow::Break((MASK, mask));
         };
         for mask in [mask, mask | 1 << index] {
             if self.ways == self.limit {
-                return ControlFlow::Break(());
+                return ControlFlow::Break((SPENT, 0));
             }
             self.ways += 1;
             let mut trial = *bound;
@@ -102,13 +98,5 @@ impl<'a> Search<'a> {
             }
         }
         ControlFlow::Continue(())
-    }
-
-    /// Keeps a mask that matches if it is plainer than those before it.
-    fn rank(&mut self, mask: u32) {
-        let ranked = (mask.count_ones(), mask);
-        if self.plainest.is_none_or(|plainest| ranked < plainest) {
-            self.plainest = Some(ranked);
-        }
     }
 }

@@ -15,7 +15,7 @@ use Rattle.rules.specs.Match.{start_bindings, attempt}
 use Rattle.rules.specs.RuleTable.{lefts_at, left_from, rule_at, rule_of}
 use Rattle.rules.specs.Verdict.{passes, judgement, early_verdict}
 use Rattle.finder.specs.declared.search.Searched.{Searched}
-use Rattle.finder.specs.Search.{max_ways, whole_search, plainest_match, over_limit, within}
+use Rattle.finder.specs.Search.{max_ways, whole_search, first_match, over_limit, within}
 use Rattle.finder.specs.FindCall.{a_mask, no_mask, spent, searched_values, found_values, is_limit}
 use Rattle.finder.proofs.LimitLaws.{within-limit, beyond-limit, found_after}
 
@@ -23,7 +23,7 @@ use Rattle.finder.proofs.LimitLaws.{within-limit, beyond-limit, found_after}
 
 pub from_start : (c : Circuit) (t : List ℕ) (p gate n : ℕ) (d : List ℕ) (s : Searched)
     → d ≡ start_bindings (rule_at t p) gate → s ≡ within n (found_after c (rule_at t p) (lefts_at t p) (attempt true d))
-    → s ≡ within n (plainest_match (whole_search c (rule_at t p) gate))
+    → s ≡ within n (first_match (whole_search c (rule_at t p) gate))
 from_start c t p gate n d s e f =
     f
     ∙ ap₂ (λ (k : ℕ) (b : List ℕ). within n (found_after c (rule_at t p) k (attempt true b))) (sym (lines-length (lefts_at t p) (drop (left_from t p) t))) e
@@ -58,16 +58,16 @@ module _ (c : Circuit) (t : List ℕ) (rule gate n : ℕ) where
   unfolding found_values
   in-verdict h = rw (ne_eqb (early_verdict c (judgement t rule) gate) passes h)
 
-  pub in-search : early_verdict c (judgement t rule) gate ≡ passes → found_values c t rule gate n ≡ searched_values n (plainest_match (whole_search c (rule_of t rule) gate))
+  pub in-search : early_verdict c (judgement t rule) gate ≡ passes → found_values c t rule gate n ≡ searched_values n (first_match (whole_search c (rule_of t rule) gate))
   unfolding found_values
   in-search h = rw (eq-eqb (early_verdict c (judgement t rule) gate) passes h)
 
-  pub in-found : (s : Searched) → early_verdict c (judgement t rule) gate ≡ passes → s ≡ within n (plainest_match (whole_search c (rule_of t rule) gate))
+  pub in-found : (s : Searched) → early_verdict c (judgement t rule) gate ≡ passes → s ≡ within n (first_match (whole_search c (rule_of t rule) gate))
       → searched_values n s ≡ found_values c t rule gate n
-  in-found s h e = ap (searched_values n) e ∙ of-within n (plainest_match (whole_search c (rule_of t rule) gate)) ∙ sym (in-search h)
+  in-found s h e = ap (searched_values n) e ∙ of-within n (first_match (whole_search c (rule_of t rule) gate)) ∙ sym (in-search h)
 
   -- what holds of each answer holds of the one that is given
-  pub found-either : (P : List ℕ → Type 0) → let s = plainest_match (whole_search c (rule_of t rule) gate) in
+  pub found-either : (P : List ℕ → Type 0) → let s = first_match (whole_search c (rule_of t rule) gate) in
       ((early_verdict c (judgement t rule) gate ≡ passes → ⊥) → P (early_verdict c (judgement t rule) gate ∷ 0 ∷ 0 ∷ []))
       → (early_verdict c (judgement t rule) gate ≡ passes → n < s.ways → P (spent ∷ 0 ∷ n ∷ []))
       → (early_verdict c (judgement t rule) gate ≡ passes → s.ways ≤ n → s.matched ≡ true → P (a_mask ∷ s.mask ∷ s.ways ∷ []))
@@ -76,7 +76,7 @@ module _ (c : Circuit) (t : List ℕ) (rule gate n : ℕ) where
   found-either P verdict over mask none = go (eqb (early_verdict c (judgement t rule) gate) passes) refl
     where
       s : Searched
-      s = plainest_match (whole_search c (rule_of t rule) gate)
+      s = first_match (whole_search c (rule_of t rule) gate)
 
       searched : (b : Bool) → s.matched ≡ b → s.ways ≤ n → early_verdict c (judgement t rule) gate ≡ passes → P (searched_values n s)
       searched true m l e = subst P (sym (of_mask n s l m)) (mask e l m)

@@ -15,7 +15,7 @@ use borrow.Author.Tests.{eq-eqb, ne_eqb, eqb-true, eqb-false}
 use Rattle.lists.specs.First.{first}
 use Rattle.lines.specs.Refusal.{Result, refused, gives}
 use Rattle.lines.specs.Checks.{first_found}
-use Rattle.lines.proofs.CheckLaws.{Passed, passed, answer-gives, answer-given}
+use Rattle.lines.proofs.CheckLaws.{Passed, passed, answer-gives}
 use Rattle.circuit.specs.Circuit.{Circuit}
 use Rattle.circuit.specs.Table.{decode}
 use Rattle.circuit.specs.Trim.{trim}
@@ -25,14 +25,13 @@ use Rattle.rules.specs.Match.{match_rule}
 use Rattle.rules.specs.MatchCall.{match_checks, matching}
 use Rattle.rules.specs.Verdict.{SiteMatch, passes, not_a_gate, no_match, judgement, early_verdict, failing, verdict_by, match_at, match_site}
 use Rattle.rules.proofs.VerdictLaws.{site-at}
-use Rattle.rules.proofs.JudgedLaws.{early-limit, early-none, early-site}
+use Rattle.rules.proofs.JudgedLaws.{early-none, early-site}
 use Rattle.finder.specs.declared.search.Searched.{Searched}
-use Rattle.finder.specs.Search.{max_ways, whole_search, plainest_match}
+use Rattle.finder.specs.Search.{whole_search, first_match}
 use Rattle.finder.specs.FindCall.{a_mask, no_mask, spent, searched_values, found_values, find_checks, finding}
-use Rattle.finder.specs.Theorems.{AsPlain, VerdictIsTheSites, SpentIsMoreWays, NoneIsNoMatch, MaskIsPlainest, LargestIsEnough}
-use Rattle.finder.proofs.PlainLaws.{plain-antisym}
-use Rattle.finder.proofs.CallLaws.{of-spent, of_mask, of_none, in-verdict, in-search, found-either}
-use Rattle.finder.proofs.SearchTheorems.{plainest-matches, plainest-of-all, no-plainest-means-none, most-ways}
+use Rattle.finder.specs.Theorems.{VerdictIsTheSites, SpentIsMoreWays, NoneIsNoMatch, MaskIsSmallest}
+use Rattle.finder.proofs.CallLaws.{of-spent, of_mask, of_none, in-verdict, in-search}
+use Rattle.finder.proofs.SearchTheorems.{first_matches, first-is-smallest, no-first-means-none}
 
 -- ---- a mask beyond the left gates, and one within them
 
@@ -52,23 +51,11 @@ module _ (c : Circuit) (u : Rule) (gate mask : ℕ) where
         | no l ↦ rw (ne_eqb (mask / 2 ^ length u.lefts) 0 (λ z. l (not_beyond mask (length u.lefts) z)))
       ]
 
-  zero-matches : (match_at c u gate mask).verdict ≡ passes → (mask < 2 ^ length u.lefts) × ((b : List ℕ) × (match_rule c u gate mask ≡ some b))
-  zero-matches q =
-      elim (dec_lt mask (2 ^ length u.lefts)) [
-        | yes l ↦ go (match_rule c u gate mask) refl l
-        | no l ↦ let no_way : ⊥ = omega (arith, q, gets-four (λ h. absurd (l h))) in absurd no_way
-      ]
-    where
-      go : (o : Option (List ℕ)) → match_rule c u gate mask ≡ o → mask < 2 ^ length u.lefts
-          → (mask < 2 ^ length u.lefts) × ((b : List ℕ) × (match_rule c u gate mask ≡ some b))
-      go none e l = let no_way : ⊥ = omega (arith, q, gets-four (λ h. e)) in absurd no_way
-      go (some b) e l = (l, (b, e))
-
 -- ---- what the search says of the sites
 
 module _ (c : Circuit) (t : List ℕ) (rule gate : ℕ) where
   abbrev s : Searched
-  s = plainest_match (whole_search c (rule_of t rule) gate)
+  s = first_match (whole_search c (rule_of t rule) gate)
 
   -- where none of the verdicts 1 to 3 applies, a site's is that of its match
   site : (mask : ℕ) → early_verdict c (judgement t rule) gate ≡ passes → (match_at c (rule_of t rule) gate mask).verdict ≡ (match_site c t rule gate mask).verdict
@@ -76,15 +63,16 @@ module _ (c : Circuit) (t : List ℕ) (rule gate : ℕ) where
       let p = early-none c t rule gate e in
       ap (λ (m : SiteMatch). m.verdict) (site-at c t rule gate mask p.0 p.1 p.2)
 
-  -- what a site gets that none of them applies to: 4 if no mask is found, 0 with the mask that is found, and only with masks that are no plainer
+  -- what a site gets that none of them applies to
   none_before : early_verdict c (judgement t rule) gate ≡ passes → s.matched ≡ false → (mask : ℕ) → (match_site c t rule gate mask).verdict ≡ no_match
-  none_before e m mask = sym (site mask e) ∙ gets-four c (rule_of t rule) gate mask ((no-plainest-means-none c (rule_of t rule) gate).0 m mask)
+  none_before e m mask = sym (site mask e) ∙ gets-four c (rule_of t rule) gate mask ((no-first-means-none c (rule_of t rule) gate).0 m mask)
 
-  found_here : early_verdict c (judgement t rule) gate ≡ passes → s.matched ≡ true → (match_site c t rule gate s.mask).verdict ≡ passes
-  found_here e m = let f = plainest-matches c (rule_of t rule) gate m in sym (site s.mask e) ∙ gets-zero c (rule_of t rule) gate s.mask f.1.0 f.0 f.1.1
+  module _ (e : early_verdict c (judgement t rule) gate ≡ passes) (m : s.matched ≡ true) where
+    found_here : (match_site c t rule gate s.mask).verdict ≡ passes
+    found_here = let f = first_matches c (rule_of t rule) gate m in sym (site s.mask e) ∙ gets-zero c (rule_of t rule) gate s.mask f.1.0 f.0 f.1.1
 
-  none-plainer : early_verdict c (judgement t rule) gate ≡ passes → (mask : ℕ) → (match_site c t rule gate mask).verdict ≡ passes → AsPlain s.mask mask
-  none-plainer e mask q = let f = zero-matches c (rule_of t rule) gate mask (site mask e ∙ q) in plainest-of-all c (rule_of t rule) gate mask f.1.0 f.0 f.1.1
+    none-smaller : (mask : ℕ) → mask < s.mask → (match_site c t rule gate mask).verdict ≡ no_match
+    none-smaller mask l = sym (site mask e) ∙ gets-four c (rule_of t rule) gate mask (λ h. first-is-smallest c (rule_of t rule) gate m mask l)
 
   -- and 0 or 4 in any case
   zero-or-four : early_verdict c (judgement t rule) gate ≡ passes → (mask v : ℕ) → 1 ≤ v → v ≤ not_a_gate → (match_site c t rule gate mask).verdict ≡ v → ⊥
@@ -203,15 +191,12 @@ module _ (circuit rules : List ℕ) (rule gate limit : ℕ) (z : (first_found (f
 
       mask-either : (mask : ℕ)
           → (finding circuit rules rule gate limit ≡ gives (a_mask ∷ mask ∷ found.ways ∷ []))
-          ↔ ((matching circuit rules rule gate mask ≡ gives (passes ∷ [])) × ((k : ℕ) → matching circuit rules rule gate k ≡ gives (passes ∷ []) → AsPlain mask k))
+          ↔ ((matching circuit rules rule gate mask ≡ gives (passes ∷ [])) × ((k : ℕ) → k < mask → matching circuit rules rule gate k ≡ gives (no_match ∷ [])))
       mask-either mask = go found.matched refl
         where
-          plainest : (k : ℕ) → matching circuit rules rule gate k ≡ gives (passes ∷ []) → AsPlain found.mask k
-          plainest k q = none-plainer c rules rule gate e k (got k passes q)
-
           go : (b : Bool) → found.matched ≡ b
               → (finding circuit rules rule gate limit ≡ gives (a_mask ∷ mask ∷ found.ways ∷ []))
-              ↔ ((matching circuit rules rule gate mask ≡ gives (passes ∷ [])) × ((k : ℕ) → matching circuit rules rule gate k ≡ gives (passes ∷ []) → AsPlain mask k))
+              ↔ ((matching circuit rules rule gate mask ≡ gives (passes ∷ [])) × ((k : ℕ) → k < mask → matching circuit rules rule gate k ≡ gives (no_match ∷ [])))
           go false m = (
             λ q. let no_way : ⊥ = omega (arith, ap outcome_of (sym q ∙ given-none e l m)) in absurd no_way,
             λ q. let no_way : ⊥ = omega (arith, got mask passes q.0, none_before c rules rule gate e m mask) in absurd no_way,
@@ -219,9 +204,17 @@ module _ (circuit rules : List ℕ) (rule gate limit : ℕ) (z : (first_found (f
           go true m = (
             λ q.
                 let same : mask ≡ found.mask = ap (λ r. get_or (values_of r) 1 0) (sym q ∙ given-mask e l m) in
-                (gets mask passes (rw same (found_here c rules rule gate e m)), rw same plainest),
+                (gets mask passes (rw same (found_here c rules rule gate e m)), λ k h. gets k no_match (none-smaller c rules rule gate e m k (omega arith))),
             λ q.
-                let same = plain-antisym found.mask mask (plainest mask q.0) (q.1 found.mask (gets found.mask passes (found_here c rules rule gate e m))) in
+                let same : found.mask ≡ mask =
+                elim (dec_lt found.mask mask) [
+                  | yes h ↦ let no_way : ⊥ = omega (arith, got found.mask no_match (q.1 found.mask h), found_here c rules rule gate e m) in absurd no_way
+                  | no h ↦ elim (dec_lt mask found.mask) [
+                    | yes k ↦ let no_way : ⊥ = omega (arith, got mask passes q.0, none-smaller c rules rule gate e m mask k) in absurd no_way
+                    | no k ↦ omega arith
+                  ]
+                ]
+                in
                 given-mask e l m ∙ ap (λ x. gives (a_mask ∷ x ∷ found.ways ∷ [])) same,
           )
 
@@ -234,17 +227,5 @@ spent-is-more-ways = spent-either
 pub none-is-no-match : NoneIsNoMatch
 none-is-no-match = none-either
 
-pub mask-is-plainest : MaskIsPlainest
-mask-is-plainest = mask-either
-
-pub largest-is-enough : LargestIsEnough
-unfolding finding
-largest-is-enough circuit rules rule gate q =
-    let c = trim (decode circuit) in
-    let p = answer-given (find_checks circuit rules max_ways) (found_values c rules rule gate max_ways) (spent ∷ 0 ∷ max_ways ∷ []) q in
-    found-either c rules rule gate max_ways (λ vs. (spent ∷ 0 ∷ max_ways ∷ []) ≡ vs → ⊥)
-    (λ no e. omega (arith, early-limit c rules rule gate, ap (λ vs. get_or vs 0 0) e))
-    (λ z l e. omega (arith, l, most-ways c rules rule gate p.0.1.1.1.0 (early-none c rules rule gate z).0))
-    (λ z l m e. omega (arith, ap (λ vs. get_or vs 0 0) e))
-    (λ z l m e. omega (arith, ap (λ vs. get_or vs 0 0) e))
-    p.1
+pub mask-is-smallest : MaskIsSmallest
+mask-is-smallest = mask-either

@@ -3,11 +3,10 @@ use mathlib.Core.Path.{◌≡◌, refl}
 use mathlib.Core.Bool.{true}
 use mathlib.Core.List.{[], ◌∷◌}
 use mathlib.Core.Option.{bind}
-use lib.Count.{ones, ones_in}
 use Rattle.circuit.specs.Circuit.{Circuit}
 use Rattle.rules.specs.Rule.{Rule}
 use Rattle.rules.specs.Match.{bind_reference, bind_operands, match_gate}
-use Rattle.finder.specs.Search.{trial, matched, events, whole_search, plainest_match}
+use Rattle.finder.specs.Search.{trial, matched, events, whole_search, first_match}
 
 -- v . 1 to v at the sole gate 1 . input (01, case (g)): as written it does not match, crosswise it does.
 abbrev constant_right : Rule
@@ -33,48 +32,6 @@ pub chain-events : whole_search chained chain 6 ≡ trial ∷ trial ∷ matched 
 unfolding events match_gate bind_operands bind_reference bind
 chain-events = refl
 
-pub chain-plainest : plainest_match (whole_search chained chain 6) ≡ record { matched = true; mask = 0; ways = 6 }
-unfolding events match_gate bind_operands bind_reference bind plainest_match ones ones_in
-chain-plainest = refl
-
--- (v . 1) . (1 . w) at (1 . 2) . (3 . 1): gate 2 as written, then gates 1 and 0 match crosswise only; gate 2 crosswise, then both match as
--- written only. So the smallest mask that matches is 3, and 4 is plainer.
-abbrev constants_inside : Rule
-constants_inside =
-    record {
-      holes = 2;
-      lefts = record { kind = 2; left = 2; right = 1 } ∷ record { kind = 2; left = 1; right = 3 } ∷ record { kind = 2; left = 4; right = 5 } ∷ [];
-      rights = [];
-      closing = 2;
-    }
-
-abbrev constants_outside : Circuit
-constants_outside =
-    record {
-      inputs = 2;
-      starts = [];
-      gates = record { kind = 2; left = 1; right = 2 } ∷ record { kind = 2; left = 3; right = 1 } ∷ record { kind = 2; left = 4; right = 5 } ∷ [];
-      outputs = 6 ∷ [];
-    }
-
-pub inside-events : whole_search constants_outside constants_inside 6
-    ≡ trial ∷ trial ∷ trial ∷ trial ∷ trial ∷ matched 3 ∷ trial ∷ trial ∷ trial ∷ matched 4 ∷ trial ∷ trial ∷ []
-unfolding events match_gate bind_operands bind_reference bind
-inside-events = refl
-
-pub inside-plainest : plainest_match (whole_search constants_outside constants_inside 6) ≡ record { matched = true; mask = 4; ways = 10 }
-unfolding events match_gate bind_operands bind_reference bind plainest_match ones ones_in
-inside-plainest = refl
-
--- (v . 1) . w there: gate 0 is crossed, or gate 1. Masks 1 and 2 have one 1 bit each, and 1 is smaller.
-abbrev constant_inside : Rule
-constant_inside =
-    record { holes = 2; lefts = record { kind = 2; left = 2; right = 1 } ∷ record { kind = 2; left = 4; right = 3 } ∷ []; rights = []; closing = 2 }
-
-pub tie-events : whole_search constants_outside constant_inside 6 ≡ trial ∷ trial ∷ trial ∷ matched 1 ∷ trial ∷ trial ∷ matched 2 ∷ trial ∷ []
-unfolding events match_gate bind_operands bind_reference bind
-tie-events = refl
-
-pub tie-plainest : plainest_match (whole_search constants_outside constant_inside 6) ≡ record { matched = true; mask = 1; ways = 6 }
-unfolding events match_gate bind_operands bind_reference bind plainest_match ones ones_in
-tie-plainest = refl
+pub chain_first : first_match (whole_search chained chain 6) ≡ record { matched = true; mask = 0; ways = 2 }
+unfolding events match_gate bind_operands bind_reference bind first_match
+chain_first = refl

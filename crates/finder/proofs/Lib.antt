@@ -1,8 +1,6 @@
 pub mod EventLaws
-pub mod PlainLaws
 pub mod LimitLaws
 pub mod MaskLaws
-pub mod FollowLaws
 pub mod WayLaws
 pub mod CallLaws
 pub mod TrimmedLaws

@@ -1,6 +1,6 @@
--- A mask's bits, and the matches of the search. Assumes nothing.
+-- A mask's bits, the matches of the search, and how large the mask is that it finds. Assumes nothing.
 use mathlib.Core.Path.{◌≡◌, refl, sym, ap, ap₂, ◌∙◌}
-use mathlib.Core.Bool.{Bool, true, false}
+use mathlib.Core.Bool.{Bool, true, false, true≢false}
 use mathlib.Core.List.{List, ◌∷◌, map}
 use mathlib.Core.Option.{Option, none, some, bind}
 use Prim.Native.Nat.{ℕ, zero, suc, ◌+◌, ◌-◌, ◌*◌, ◌/◌, ◌%◌, ◌^◌, ◌≤◌, ◌<◌}
@@ -15,8 +15,10 @@ use Rattle.circuit.specs.Circuit.{Circuit}
 use Rattle.rules.specs.Soundness.{bit}
 use Rattle.rules.specs.Rule.{Rule}
 use Rattle.rules.specs.Match.{match_left, is_swapped, match_gates}
-use Rattle.finder.specs.Search.{trial, crossed, events, has}
-use Rattle.finder.proofs.EventLaws.{or-none, has-append, has-trial, crossed-low, crossed-high}
+use Rattle.finder.specs.declared.search.Searched.{Searched}
+use Rattle.finder.specs.Search.{trial, crossed, events, first_match, has, within}
+use Rattle.finder.proofs.EventLaws.{first-has, first-zero, has-append, has-trial, crossed-low, crossed-high, IsLeast, least-crossed, least-append}
+use Rattle.finder.proofs.LimitLaws.{within-limit, beyond-limit, found_after}
 
 -- bits of a mask below 2 ^ i, and of one with bit i set
 bit-beyond : (i m : ℕ) → m < 2 ^ i → bit i m ≡ 0
@@ -70,6 +72,10 @@ module _ (c : Circuit) (u : Rule) where
       has-append m (trial ∷ events c u i (match_left c u i false b)) (trial ∷ map (crossed (2 ^ i)) (events c u i (match_left c u i true b)))
       ∙ ap₂ (λ (x y : Bool). first x true y) (has-trial m (events c u i (match_left c u i false b))) (has-trial m (map (crossed (2 ^ i)) (events c u i (match_left c u i true b))))
 
+  or-none : (a : Bool) → first a true false ≡ a
+  or-none true = refl
+  or-none false = refl
+
   pub beyond : (i m : ℕ) (o : Option (List ℕ)) → 2 ^ i ≤ m → has m (events c u i o) ≡ false
   unfolding events has
   beyond zero m none l = refl
@@ -107,4 +113,33 @@ module _ (c : Circuit) (u : Rule) where
             ∙ has-match i k (match_left c u i true b) h)
             ∙ ap is_some (bind-alike (match_left c u i true b) (match_gates c u k i) (match_gates c u m i) (gates-alike c u k m i (λ j l. sym (bit_below i k j l) ∙ ap (bit j) s)))
             ∙ ap (λ (x : ℕ). is_some (bind (match_left c u i (eqb x 1) b) (match_gates c u m i))) (sym (ap (bit i) (sym s) ∙ bit-set i k h))
+      ]
+
+  pub least : (i : ℕ) (o : Option (List ℕ)) → IsLeast (events c u i o)
+  unfolding events first_match has
+  least zero none e m l = absurd (true≢false (sym e))
+  least zero (some b) e m l = let z : ⊥ = omega arith in absurd z
+  least (suc i) none e m l = absurd (true≢false (sym e))
+  least (suc i) (some b) e m l =
+      least-append (2 ^ i) (trial ∷ events c u i (match_left c u i false b)) (trial ∷ map (crossed (2 ^ i)) (events c u i (match_left c u i true b)))
+      (least i (match_left c u i false b)) (least-crossed (2 ^ i) (events c u i (match_left c u i true b)) (least i (match_left c u i true b)))
+      (λ m l. beyond i m (match_left c u i false b) l) (λ m l. crossed-low m (2 ^ i) (events c u i (match_left c u i true b)) l) e m l
+
+  -- the mask that is found is within the gates to go
+  mask_below : (i : ℕ) (o : Option (List ℕ)) → (found_after c u i o).mask < 2 ^ i
+  mask_below i o = go (found_after c u i o).matched refl
+    where
+      go : (t : Bool) → (found_after c u i o).matched ≡ t → (found_after c u i o).mask < 2 ^ i
+      go false e = omega (arith, first-zero (events c u i o) e, pow_pos i)
+      go true e =
+          elim (dec_lt (found_after c u i o).mask (2 ^ i)) [
+            | yes l ↦ l
+            | no l ↦ absurd (true≢false (sym (first-has (events c u i o) e) ∙ beyond i (found_after c u i o).mask o (omega arith)))
+          ]
+
+  pub mask-small : (i n : ℕ) (o : Option (List ℕ)) (f : Searched) → f ≡ within n (found_after c u i o) → f.mask < 2 ^ i
+  mask-small i n o f e =
+      elim (dec_lt n (found_after c u i o).ways) [
+        | yes l ↦ omega (arith, ap (λ (x : Searched). x.mask) (e ∙ beyond-limit n (found_after c u i o) l), pow_pos i)
+        | no l ↦ omega (arith, ap (λ (x : Searched). x.mask) (e ∙ within-limit n (found_after c u i o) (omega arith)), mask_below i o)
       ]

@@ -3,22 +3,19 @@ use mathlib.Core.Path.{◌≡◌, refl, sym, ap, ◌∙◌}
 use mathlib.Core.Bool.{Bool, true, false, true≢false, false≢true}
 use mathlib.Core.List.{List}
 use mathlib.Core.Option.{Option, none, some, bind}
-use Prim.Native.Nat.{ℕ, ◌+◌, ◌^◌, ◌<◌}
+use Prim.Native.Nat.{ℕ, zero, suc, ◌^◌, ◌≤◌, ◌<◌}
 use native.Mathlib.Omega.{arith}
 use native.Mathlib.Numerals.{add-one}
+use native.Mathlib.Decide.{dec_lt}
 use lib.ListN.{length}
-use lib.Pow.{pow_mono}
 use Rattle.circuit.specs.Circuit.{Circuit}
-use Rattle.rules.specs.Rule.{Rule, max_lefts}
-use Rattle.rules.specs.RuleTable.{rule_of}
+use Rattle.rules.specs.Rule.{Rule}
 use Rattle.rules.specs.Match.{match_rule, start_bindings}
-use Rattle.rules.proofs.RefusalLaws.{accepted-rules-are-well-formed, each-rule-is-well-formed}
-use Rattle.finder.specs.Search.{whole_search, plainest_match, has}
-use Rattle.finder.specs.Theorems.{SearchHasMatches, PlainestMatches, PlainestOfAll, NoPlainestMeansNone, FewWays, MostWays, TwoWays}
-use Rattle.finder.proofs.EventLaws.{below-has}
-use Rattle.finder.proofs.PlainLaws.{plainest-none, plainest-has, plainest-plain}
-use Rattle.finder.proofs.MaskLaws.{is_some, beyond, has-match}
-use Rattle.finder.proofs.WayLaws.{few-ways-after, two-ways-after}
+use Rattle.finder.specs.Search.{events, whole_search, first_match, has}
+use Rattle.finder.specs.Theorems.{SearchHasMatches, FirstMatches, FirstIsSmallest, NoFirstMeansNone, FewWays, SomeWay}
+use Rattle.finder.proofs.EventLaws.{first-has, first-none}
+use Rattle.finder.proofs.MaskLaws.{is_some, beyond, has-match, least}
+use Rattle.finder.proofs.WayLaws.{first-ways, few-trials}
 
 some_is : (o : Option (List ℕ)) → is_some o ≡ true → (b : List ℕ) × (o ≡ some b)
 some_is none e = absurd (false≢true e)
@@ -35,7 +32,11 @@ module _ (c : Circuit) (u : Rule) (gate : ℕ) where
   has-is m l = has-match c u (length u.lefts) m (some (start_bindings u gate)) l
 
   within-lefts : (m : ℕ) → has m (whole_search c u gate) ≡ true → m < 2 ^ length u.lefts
-  within-lefts m e = below-has (2 ^ length u.lefts) m (whole_search c u gate) (λ k l. beyond c u (length u.lefts) k (some (start_bindings u gate)) l) e
+  within-lefts m e =
+      elim (dec_lt m (2 ^ length u.lefts)) [
+        | yes l ↦ l
+        | no l ↦ absurd (true≢false (sym e ∙ beyond c u (length u.lefts) m (some (start_bindings u gate)) (omega arith)))
+      ]
 
   has-matches : (m : ℕ) → has m (whole_search c u gate) ≡ true → (m < 2 ^ length u.lefts) × ((b : List ℕ) × (match_rule c u gate m ≡ some b))
   has-matches m e = (within-lefts m e, some_is (match_rule c u gate m) (sym (has-is m (within-lefts m e)) ∙ e))
@@ -56,25 +57,33 @@ module _ (c : Circuit) (u : Rule) (gate : ℕ) where
 pub search-has-matches : SearchHasMatches
 search-has-matches c u gate m = (has-matches c u gate m, λ e. matches-has c u gate m e.1.0 e.0 e.1.1)
 
-pub plainest-matches : PlainestMatches
-plainest-matches c u gate e = has-matches c u gate (plainest_match (whole_search c u gate)).mask (plainest-has (whole_search c u gate) e)
+pub first_matches : FirstMatches
+first_matches c u gate e = has-matches c u gate (first_match (whole_search c u gate)).mask (first-has (whole_search c u gate) e)
 
-pub plainest-of-all : PlainestOfAll
-plainest-of-all c u gate m b l e = plainest-plain (whole_search c u gate) m (matches-has c u gate m b l e)
+pub first-is-smallest : FirstIsSmallest
+first-is-smallest c u gate e m l =
+    let w = within-lefts c u gate (first_match (whole_search c u gate)).mask (first-has (whole_search c u gate) e) in
+    none_is (match_rule c u gate m) (sym (has-is c u gate m (omega arith)) ∙ least c u (length u.lefts) (some (start_bindings u gate)) e m l)
 
-pub no-plainest-means-none : NoPlainestMeansNone
-no-plainest-means-none c u gate = (
-  λ e. no-match c u gate (plainest-none (whole_search c u gate) e),
-  none_found c u gate (plainest_match (whole_search c u gate)).matched (plainest_match (whole_search c u gate)).mask (plainest-has (whole_search c u gate)),
+pub no-first-means-none : NoFirstMeansNone
+no-first-means-none c u gate = (
+  λ e. no-match c u gate (first-none (whole_search c u gate) e),
+  none_found c u gate (first_match (whole_search c u gate)).matched (first_match (whole_search c u gate)).mask (first-has (whole_search c u gate)),
 )
 
 pub few-ways : FewWays
-few-ways c u gate = rw (add-one (length u.lefts)) (few-ways-after c u (length u.lefts) (some (start_bindings u gate)))
+few-ways c u gate =
+    omega (
+      arith,
+      first-ways (whole_search c u gate),
+      few-trials c u (length u.lefts) (some (start_bindings u gate)),
+      ap (λ k. 2 ^ k) (add-one (length u.lefts)),
+    )
 
-pub most-ways : MostWays
-most-ways c rules rule gate ok h =
-    let u = (each-rule-is-well-formed rules ((accepted-rules-are-well-formed rules).0 ok) rule h).1 in
-    omega (arith, few-ways c (rule_of rules rule) gate, pow_mono {i = length (rule_of rules rule).lefts + 1} {j = max_lefts + 1} (omega (arith, u.lefts-limit)))
-
-pub two_ways : TwoWays
-two_ways c u gate h = two-ways-after c u (length u.lefts) (start_bindings u gate) h
+pub some-way : SomeWay
+unfolding events first_match
+some-way c u gate h = go (length u.lefts) h
+  where
+    go : (n : ℕ) → 1 ≤ n → 1 ≤ (first_match (events c u n (some (start_bindings u gate)))).ways
+    go zero h = let no_way : ⊥ = omega arith in absurd no_way
+    go (suc i) h = omega arith

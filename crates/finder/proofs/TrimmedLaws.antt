@@ -20,7 +20,7 @@ use Rattle.rules.specs.Verdict.{passes, not_a_gate, judgement, early_verdict}
 use Rattle.rules.proofs.JudgedLaws.{early-none}
 use Rattle.rules.proofs.TrimmedLaws.{AlikeOption, start-alike, gate-alike, old-either}
 use Rattle.finder.specs.declared.search.Searched.{Searched}
-use Rattle.finder.specs.Search.{trial, crossed, events, whole_search, plainest_match}
+use Rattle.finder.specs.Search.{trial, crossed, events, whole_search, first_match}
 use Rattle.finder.specs.FindCall.{searched_values, found_values}
 use Rattle.finder.proofs.CallLaws.{in-verdict}
 
@@ -56,7 +56,7 @@ module _ (c : Circuit) (ok : Valid c) (t : List ℕ) (rule n : ℕ) where
 
   kept_same : (w : ℕ) → is_kept c w ≡ true → Same (new_number c w) w
   unfolding found_values
-  kept_same w k = ap₂ answered (early-same (new_number c w) w (trim-is-gate c ok w k)) (ap plainest_match (search-alike c ok (rule_of t rule) w k))
+  kept_same w k = ap₂ answered (early-same (new_number c w) w (trim-is-gate c ok w k)) (ap first_match (search-alike c ok (rule_of t rule) w k))
 
   beyond-same : (v w : ℕ) → references (trim c) ≤ v → references c ≤ w → Same v w
   beyond-same v w h l =

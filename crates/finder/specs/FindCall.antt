@@ -1,4 +1,4 @@
--- The call `find_mask` (02, 2026-02 and 2026-09): what it gives back, for every input.
+-- The call `find_mask` (02, 2026-02): what it gives back, for every input.
 use Rattle.std.specs.Prelude.{ℕ, Bool, not, ◌&&◌, List, [], ◌∷◌, ◌++◌, eqb, leb, ltb}
 use Rattle.lists.specs.First.{first}
 use Rattle.lines.specs.declared.Refusal.{Refusal}
@@ -13,10 +13,10 @@ use Rattle.rules.specs.Verdict.{passes, judgement, early_verdict}
 use Rattle.finder.specs.declared.Found.{Found}
 use Rattle.finder.specs.declared.Found.TheVariants.{Mask, Verdict, NoMask, Spent, Refused}
 use Rattle.finder.specs.declared.search.Searched.{Searched}
-use Rattle.finder.specs.Search.{max_ways, whole_search, plainest_match}
+use Rattle.finder.specs.Search.{max_ways, whole_search, first_match}
 
--- The outcomes by their numbers. The verdicts 1 to 3 of a site keep theirs; 02 names no other numbers, so that those of a mask, of "none" and of
--- "spent" are decided here (docs/DECISIONS.md).
+-- The outcomes by their numbers. The verdicts 1 to 3 of a site keep theirs; 02 has no others, so that those of a mask, of "none" and of "spent"
+-- are decided here (docs/DECISIONS.md).
 abbrev pub a_mask : ℕ
 a_mask = 0
 
@@ -45,7 +45,7 @@ searched_values limit s =
 unfoldable pub found_values : Circuit → (rules : List ℕ) (rule gate limit : ℕ) → List ℕ
 found_values c t rule gate limit =
     first (not (eqb (early_verdict c (judgement t rule) gate) passes)) (early_verdict c (judgement t rule) gate ∷ 0 ∷ 0 ∷ [])
-    (searched_values limit (plainest_match (whole_search c (rule_of t rule) gate)))
+    (searched_values limit (first_match (whole_search c (rule_of t rule) gate)))
 
 -- refusal 12: a limit of ways outside its range
 abbrev pub is_limit : (limit : ℕ) → Bool

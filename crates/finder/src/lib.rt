@@ -1,4 +1,4 @@
-// The finder of swap masks (02, 2026-02), which gives the plainest (02, 2026-09).
+// The finder of swap masks (02, 2026-02).
 ghost use Rattle.std.specs.Prelude.{◌≡◌};
 ghost use Rattle.lines.specs.Checks.{first_found};
 ghost use Rattle.finder.specs.FindCall.{paper_values, is_limit, find_checks, finding};
@@ -51,7 +51,7 @@ fn find_refusal(circuit: &[u32], rules: &[u32], limit: u32) -> Refusal
     refuse(0, NO_TABLE)
 }
 
-// The plainest mask by which a rule matches at a gate of the trimmed circuit, looked for in at most `limit` ways.
+// The smallest mask by which a rule matches at a gate of the trimmed circuit, looked for in at most `limit` ways.
 pub fn find_mask(circuit: &[u32], rules: &[u32], rule: u32, gate: u32, limit: u32) -> Found
     ensures { paper_values result ≡ finding circuit.now rules.now rule gate limit }
 {

@@ -1,13 +1,12 @@
-// The search for the mask by which a rule matches at a gate (02, 2026-02), the plainest one (02, 2026-09).
+// The search for the mask by which a rule matches at a gate (02, 2026-02).
 ghost use Rattle.std.specs.Prelude.{◌≡◌, ◌+◌, ◌^◌, ◌<◌, ◌≤◌};
-ghost use Rattle.lists.specs.First.{first};
 ghost use Rattle.circuit.specs.Table.{refs, gates_from, decode};
 ghost use Rattle.circuit.specs.WellFormed.{WellFormed};
 ghost use Rattle.rules.specs.Match.{attempt};
 ghost use Rattle.rules.specs.Rule.{max_lefts};
 ghost use Rattle.rules.specs.RuleTable.{lefts_at, rule_at};
 ghost use Rattle.rules.specs.WellFormed.{WellFormedRule};
-ghost use Rattle.finder.specs.Search.{events, whole_search, after, raised, is_plainer, plainer_of, with_match, plainest_match, max_ways, over_limit, within};
+ghost use Rattle.finder.specs.Search.{events, whole_search, after, raised, first_match, max_ways, over_limit, within};
 
 use circuit::checked::gates_from;
 use rules::checked::{BINDINGS, match_left, start_bindings};
@@ -45,52 +44,6 @@ fn behind_crossed(ways: u32, i: u32, s: Searched) -> Searched
     }
 }
 
-// Whether mask m is plainer than n: it has fewer 1 bits, or as many and is smaller.
-fn is_plainer(m: u32, n: u32) -> bool
-    ensures { result ≡ is_plainer m n }
-{
-    let crossings = u32::count_ones(m);
-    let others = u32::count_ones(n);
-    if crossings == others {
-        return m < n;
-    }
-    crossings < others
-}
-
-// The plainer of two masks.
-fn plainer_of(m: u32, n: u32) -> u32
-    ensures { result ≡ plainer_of m n }
-{
-    if is_plainer(m, n) { m } else { n }
-}
-
-// What is found where mask m matches as well.
-fn with_match(m: u32, s: Searched) -> Searched
-    ensures { result ≡ with_match m s }
-{
-    let mask = if s.matched { plainer_of(m, s.mask) } else { m };
-    Searched {
-        matched: true,
-        mask: mask,
-        ways: s.ways,
-    }
-}
-
-// What is found by both trials of a gate, in at most `limit` ways: f behind the one as written, and s behind the one crosswise, whose ways are
-// those of both. Over the limit there is no match, whatever was found.
-fn found_by_both(limit: u32, f: Searched, s: Searched) -> Searched
-    requires { limit ≤ max_ways }
-    ensures { result ≡ within limit (first f.matched (with_match f.mask s) s) }
-{
-    if limit < s.ways {
-        return over_limit(limit);
-    }
-    if f.matched {
-        return with_match(f.mask, s);
-    }
-    s
-}
-
 // What is found after a trial, with `ahead` left gates of the rule at number p of t still to be tried, in at most `limit` ways: it stops before
 // a trial that would be one more, and counts that one. The trial before it says whether its gate's part of the match held, and the bindings that
 // it left, which are of no more use if it did not.
@@ -109,7 +62,7 @@ fn follow(
     requires well_formed_rule { WellFormedRule t.now p }
     requires ahead_bound { (ahead ≤ lefts_at t.now p) × (limit ≤ max_ways) }
     ensures { result ≡ within limit
-        (plainest_match (events (decode c.now) (rule_at t.now p) ahead (attempt holds bindings))) }
+        (first_match (events (decode c.now) (rule_at t.now p) ahead (attempt holds bindings))) }
 {
     if !holds | (ahead == 0) {
         return Searched {
@@ -126,13 +79,20 @@ fn follow(
     let plain = match_left(c, from, t, p, i, false, &mut as_written);
     let found = follow(c, from, t, p, i, plain, as_written, limit - 1);
     let ways = found.ways + 1;
+    if found.matched {
+        return Searched {
+            matched: true,
+            mask: found.mask,
+            ways: ways,
+        };
+    }
     if limit <= ways {
         return over_limit(limit);
     }
     let mut crosswise = bindings;
     let crossed = match_left(c, from, t, p, i, true, &mut crosswise);
     let rest = follow(c, from, t, p, i, crossed, crosswise, limit - ways - 1);
-    found_by_both(limit, found, behind_crossed(ways + 1, i, rest))
+    behind_crossed(ways + 1, i, rest)
 }
 
 // What is found of the rule at number p of t at a gate, in at most `limit` ways.
@@ -140,7 +100,7 @@ pub fn search_at(c: &[u32], t: &[u32], p: usize, gate: u32, limit: u32) -> Searc
     requires well_formed { WellFormed c.now }
     requires well_formed_rule { WellFormedRule t.now p }
     requires gate_bound { (gate < refs c.now) × (limit ≤ max_ways) }
-    ensures { result ≡ within limit (plainest_match (whole_search (decode c.now) (rule_at t.now p) gate)) }
+    ensures { result ≡ within limit (first_match (whole_search (decode c.now) (rule_at t.now p) gate)) }
 {
     let mut b = [0u32; BINDINGS];
     start_bindings(t, p, gate, &mut b);

@@ -38,7 +38,7 @@ use Rattle.rules.proofs.JudgedLaws.{early-limit, early-none}
 use Rattle.rules.proofs.VerdictTheorems.{verdicts-are-small}
 use Rattle.finder.specs.Search.{max_ways}
 use Rattle.finder.specs.FindCall.{found_values, find_checks, finding, is_limit as is_ways}
-use Rattle.finder.proofs.SearchTheorems.{plainest-matches}
+use Rattle.finder.proofs.SearchTheorems.{first_matches}
 use Rattle.finder.proofs.CallLaws.{found-either, limit-small}
 use Rattle.rewriting.specs.Run.{start_state, final_state}
 use Rattle.rewriting.specs.RewriteCall.{done_values, rewrite_checks, rewriting}
@@ -125,7 +125,7 @@ found_within c rules rule gate limit w most =
     (λ e l m.
     let u = (each-rule-is-well-formed rules w rule (early-none c rules rule gate e).0).1 in
     let few = pow_mono {i = length (rule_of rules rule).lefts} {j = max_lefts} u.lefts-limit in
-    (omega arith, (omega (arith, (plainest-matches c (rule_of rules rule) gate m).0, few), (omega arith, tt))))
+    (omega arith, (omega (arith, (first_matches c (rule_of rules rule) gate m).0, few), (omega arith, tt))))
     (λ e l m. (omega arith, (omega arith, (omega arith, tt))))
 
 pub find-is-within : FindIsWithin

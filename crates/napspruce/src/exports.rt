@@ -95,7 +95,7 @@ pub extern "C" fn napspruce_match(
     }
 }
 
-// Gives the plainest mask by which a rule matches at a gate, looked for in at most `limit` ways, or why there is none, and the ways.
+// Gives the mask by which a rule matches at a gate, looked for in at most `limit` ways, or why there is none, and the ways tried.
 #[unsafe(no_mangle)]
 pub extern "C" fn napspruce_find(
     circuit: &[u32],

@@ -3,7 +3,7 @@
 use evaluator::refusal::Answer;
 use evaluator::rules::Verdict;
 
-use crate::exports::{Export, Outcome};
+use crate::exports::Export;
 use crate::slices::Watched;
 
 /// A call that was made.
@@ -13,8 +13,8 @@ pub struct Call<'a> {
     pub expected: Answer<Vec<u64>>,
     slices: Vec<&'a dyn Watched>,
     numbers: Vec<u32>,
-    /// What was given beside success or refusal, for the coverage.
-    pub outcomes: Vec<Outcome>,
+    /// The verdicts that were given, for the coverage.
+    pub verdicts: Vec<Verdict>,
 }
 
 impl<'a> Call<'a> {
@@ -30,7 +30,7 @@ impl<'a> Call<'a> {
             expected,
             slices,
             numbers: Vec::new(),
-            outcomes: Vec::new(),
+            verdicts: Vec::new(),
         }
     }
 
@@ -39,12 +39,8 @@ impl<'a> Call<'a> {
         self
     }
 
-    pub fn with_verdicts<'v>(self, verdicts: impl Iterator<Item = &'v Verdict>) -> Call<'a> {
-        self.with_outcomes(verdicts.copied().map(Outcome::Verdict))
-    }
-
-    pub fn with_outcomes(mut self, outcomes: impl Iterator<Item = Outcome>) -> Call<'a> {
-        self.outcomes = outcomes.collect();
+    pub fn with_verdicts<'v>(mut self, verdicts: impl Iterator<Item = &'v Verdict>) -> Call<'a> {
+        self.verdicts = verdicts.copied().collect();
         self
     }
 

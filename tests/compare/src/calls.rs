@@ -3,7 +3,7 @@
 use evaluator::circuit::{CIRCUIT_NUMBERS, MOST_OUTPUTS};
 use evaluator::depth::{self, Pair};
 use evaluator::discipline::check_discipline;
-use evaluator::finding::{self, Found, MASK, SPENT};
+use evaluator::finding::{self, Found};
 use evaluator::lines::{self, Line, LINE_BYTES};
 use evaluator::listing::{self, LISTING_BYTES};
 use evaluator::machine::INSTRUCTION_NUMBERS;
@@ -17,8 +17,8 @@ use evaluator::{evaluation, matching};
 
 use crate::call::Call;
 use crate::exports::{
-    Choice, Export, Outcome, EVALUATE, FIND, JUDGE, LISTING, MATCH, MEASURE, READ, REWRITE,
-    TRANSLATE, WRITE,
+    Export, Outcome, EVALUATE, FIND, JUDGE, LISTING, MATCH, MEASURE, READ, REWRITE, TRANSLATE,
+    WRITE,
 };
 use crate::library::*;
 use crate::numbers::LINE_NUMBERS;
@@ -95,15 +95,14 @@ impl Calls<'_> {
     pub fn match_site(&mut self, circuit: &[u32], rules: &[u32], site: Line) {
         let [rule, gate, mask] = site;
         let answer = matching::match_site(circuit, rules, rule, gate, mask);
-        let values = answer.map(|verdict| (vec![Outcome::Verdict(verdict)], vec![verdict.into()]));
+        let values = answer.map(|verdict| (verdict, vec![verdict.into()]));
         self.on_rules(&MATCH, napspruce_match, [circuit, rules], site, values);
     }
 
-    /// The finder, where these masks match.
-    pub fn find_mask(&mut self, circuit: &[u32], rules: &[u32], wanted: Line, masks: &[u32]) {
+    pub fn find_mask(&mut self, circuit: &[u32], rules: &[u32], wanted: Line) {
         let [rule, gate, limit] = wanted;
         let answer = finding::find_mask(circuit, rules, rule, gate, limit);
-        let values = answer.map(|found| (found_outcomes(found, masks), found_values(found)));
+        let values = answer.map(|found| (found.outcome, found_values(found)));
         self.on_rules(&FIND, napspruce_find, [circuit, rules], wanted, values);
     }
 
@@ -114,19 +113,16 @@ impl Calls<'_> {
         function: OnRules,
         [circuit, rules]: [&[u32]; 2],
         numbers: Line,
-        answer: Answer<(Vec<Outcome>, Vec<u64>)>,
+        answer: Answer<(Verdict, Vec<u64>)>,
     ) {
         let mut given = self.given("circuit", circuit);
         let mut patterns = self.given("rules", rules);
         let [first, second, third] = numbers;
         let result = call!(function, given, patterns; first, second, third);
-        let (outcomes, expected) = match answer {
-            Ok((outcomes, values)) => (outcomes, Ok(values)),
-            Err(refusal) => (Vec::new(), Err(refusal)),
-        };
+        let verdict = answer.as_ref().ok().map(|(verdict, _)| *verdict);
+        let expected = answer.map(|(_, values)| values);
         let call = Call::new(export, result, expected, vec![&given, &patterns]);
-        let call = call.with_numbers(&numbers);
-        self.settle(call.with_outcomes(outcomes.into_iter()));
+        self.settle(call.with_numbers(&numbers).with_verdicts(verdict.iter()));
     }
 
     pub fn rewrite(&mut self, [circuit, rules, sites]: [&[u32]; 3]) {
@@ -234,8 +230,8 @@ impl Calls<'_> {
             let outcome = call.expected.err();
             let outcome = outcome.map_or(Outcome::Success, Outcome::Refused);
             self.tally.count(call.export, outcome);
-            for outcome in call.outcomes {
-                self.tally.count(call.export, outcome);
+            for verdict in call.verdicts {
+                self.tally.count(call.export, Outcome::Verdict(verdict));
             }
         }
     }
@@ -254,28 +250,6 @@ fn pair_values(pair: Pair) -> [u64; 2] {
 
 fn found_values(found: Found) -> Vec<u64> {
     vec![found.ways.into(), found.outcome.into(), found.mask.into()]
-}
-
-/// The outcome of a search in which these masks match, in ascending order, and what it chose among them.
-fn found_outcomes(found: Found, masks: &[u32]) -> Vec<Outcome> {
-    let as_plain = |mask: &&u32| mask.count_ones() == found.mask.count_ones();
-    let given = found.outcome == MASK;
-    let choices = [
-        (Choice::Several, given && masks.len() > 1),
-        (Choice::NotSmallest, given && masks[0] != found.mask),
-        (
-            Choice::EquallyPlain,
-            given && masks.iter().filter(as_plain).count() > 1,
-        ),
-        (
-            Choice::SpentOnMatch,
-            found.outcome == SPENT && !masks.is_empty(),
-        ),
-    ];
-    let met = choices.into_iter().filter(|&(_, met)| met);
-    let mut outcomes = vec![Outcome::Verdict(found.outcome)];
-    outcomes.extend(met.map(|(choice, _)| Outcome::Choice(choice)));
-    outcomes
 }
 
 fn rewritten_values(run: Rewritten) -> Vec<u64> {

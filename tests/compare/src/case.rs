@@ -1,7 +1,7 @@
 //! A case: three texts and three tables, some of them damaged, and the calls that are tried on them.
 
 use evaluator::circuit::{Circuit, MOST_INPUTS};
-use evaluator::finding::{find_mask, matching_masks, MOST_WAYS};
+use evaluator::finding::{find_mask, MOST_WAYS};
 use evaluator::generator;
 use evaluator::holding::Holding;
 use evaluator::lines::{lines_of_table, read_line, text_of, Line, LINE_BYTES};
@@ -16,9 +16,7 @@ use crate::calls::Calls;
 use crate::numbers::{
     alter, any_lines, odd_number, spoil_run, spoil_table, spoil_text, LINE_NUMBERS,
 };
-use crate::shapes::{
-    branching, chained, constant, crowded, full, handed_on, overfull, symmetric, wide,
-};
+use crate::shapes::{chained, constant, crowded, full, handed_on, overfull, symmetric, wide};
 
 /// How many rules are judged, sites matched and searched, and limits picked in a case or search.
 const JUDGED: u32 = 8;
@@ -89,7 +87,6 @@ fn texts(random: &mut Random, seed: u64, number: u64) -> [Vec<u8>; 3] {
         rest if rest % 20 == 5 => wide(random, number as usize / 20),
         rest if rest % 20 == 9 => symmetric(random),
         rest if rest % 20 == 17 => constant(random),
-        rest if rest % 20 == 19 => branching(random),
         rest if rest % 10 == 3 => {
             let draft = chained(random);
             if random.chance(30) {
@@ -176,14 +173,13 @@ fn try_find(calls: &mut Calls, circuit: &[u32], rules: &[u32], sites: &[u32]) {
     for [rule, gate, _] in searched {
         let found = find_mask(circuit, rules, rule, gate, MOST_WAYS);
         let ways = found.map_or(9, |found| found.ways.max(1));
-        let masks = matching_masks(circuit, rules, rule, gate).unwrap_or_default();
         let any = odd_number(&mut calls.random, ways);
         let near = [ways - 1, ways, ways + 1];
         let most = MOST_WAYS;
         let limits = [&near[..], &near, &near, &[0, 1, 2, most, most + 1, any]].concat();
         for _ in 0..LIMITS {
             let limit = calls.random.pick(&limits);
-            calls.find_mask(circuit, rules, [rule, gate, limit], &masks);
+            calls.find_mask(circuit, rules, [rule, gate, limit]);
         }
     }
 }

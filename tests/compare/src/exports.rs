@@ -14,20 +14,6 @@ pub struct Export {
     refusals: &'static [&'static [Refusal]],
     /// How many verdicts, or outcomes of a search, it can give, from 0.
     verdicts: u8,
-    choices: &'static [Choice],
-}
-
-/// What comes up in full searches, which give the plainest mask (02, 2026-09).
-#[derive(Clone, Copy, Debug, PartialEq, Eq, PartialOrd, Ord)]
-pub enum Choice {
-    /// More masks than one match.
-    Several,
-    /// The smallest one is not given.
-    NotSmallest,
-    /// Another one has no more 1 bits than the one given.
-    EquallyPlain,
-    /// No mask is given though one matches.
-    SpentOnMatch,
 }
 
 /// What a call can come to.
@@ -36,7 +22,6 @@ pub enum Outcome {
     Success,
     Refused(Refusal),
     Verdict(u8),
-    Choice(Choice),
 }
 
 const fn field(shift: u32, width: u32) -> Field {
@@ -98,7 +83,6 @@ const fn export(
         fields,
         refusals,
         verdicts,
-        choices: &[],
     }
 }
 
@@ -118,20 +102,12 @@ pub const MATCH: Export = export(
     &[TORN_CIRCUIT, TORN_RULES, BAD_CIRCUIT, BAD_RULES],
     5,
 );
-pub const FIND: Export = Export {
-    choices: &[
-        Choice::Several,
-        Choice::NotSmallest,
-        Choice::EquallyPlain,
-        Choice::SpentOnMatch,
-    ],
-    ..export(
-        "find",
-        FOUND,
-        &[TORN_CIRCUIT, TORN_RULES, BAD_CIRCUIT, BAD_RULES, WRONG_WAYS],
-        6,
-    )
-};
+pub const FIND: Export = export(
+    "find",
+    FOUND,
+    &[TORN_CIRCUIT, TORN_RULES, BAD_CIRCUIT, BAD_RULES, WRONG_WAYS],
+    6,
+);
 pub const REWRITE: Export = export(
     "rewrite",
     REWRITTEN,
@@ -169,7 +145,6 @@ impl Export {
         let mut outcomes = vec![Outcome::Success];
         outcomes.extend(refusals.map(|&refusal| Outcome::Refused(refusal)));
         outcomes.extend((0..self.verdicts).map(Outcome::Verdict));
-        outcomes.extend(self.choices.iter().copied().map(Outcome::Choice));
         outcomes
     }
 

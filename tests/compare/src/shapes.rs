@@ -5,7 +5,7 @@ use std::collections::VecDeque;
 use evaluator::circuit::{Circuit, MOST_GATES, MOST_INPUTS, MOST_OUTPUTS};
 use evaluator::gates::{Gate, Kind, CONSTANTS};
 use evaluator::generator::{
-    branching_rule, differing, outnumber, some_starts, spoil_starts, stock, symmetric_rule,
+    differing, outnumber, some_starts, spoil_starts, stock, symmetric_rule,
 };
 use evaluator::lines::Line;
 use evaluator::random::Random;
@@ -172,21 +172,18 @@ fn any_gate(random: &mut Random, kind: Kind, own: usize) -> Gate {
 /// A rule whose pattern is a chain of up to as many gates as there may be, a circuit with that pattern in it, and sites there.
 pub fn chained(random: &mut Random) -> Draft {
     let rule = chain_rule(random, 1);
-    with_pattern(random, rule)
-}
-
-/// The same with a pattern whose branches are alike, so that several masks match: often the smallest of them is not the plainest, or
-/// several are equally plain (02, 2026-09).
-pub fn branching(random: &mut Random) -> Draft {
-    let rule = branching_rule(random);
-    with_pattern(random, rule)
+    let mask = any_mask(random, &rule);
+    let (circuit, end) = planted(random, &rule, mask, 0);
+    aimed(random, rule, circuit, end, mask)
 }
 
 /// The same with a rule of so many holes that several words are judged (02, 2026-07), and behind it, for each such number of holes,
 /// one that is unsound on a single assignment; the word of that assignment goes round from turn to turn.
 pub fn wide(random: &mut Random, turn: usize) -> Draft {
     let rule = wide_rule(random);
-    let mut draft = with_pattern(random, rule);
+    let mask = any_mask(random, &rule);
+    let (circuit, end) = planted(random, &rule, mask, 0);
+    let mut draft = aimed(random, rule, circuit, end, mask);
     for holes in WORD_HOLES + 1..=MOST_HOLES as usize {
         let words = 1 << (holes - WORD_HOLES);
         draft.rules.push(differing_in(random, holes, turn % words));
@@ -261,13 +258,6 @@ fn differing_in(random: &mut Random, holes: usize, word: usize) -> Rule {
 
 fn any_mask(random: &mut Random, rule: &Rule) -> u32 {
     random.below(1 << rule.left.len()) as u32
-}
-
-/// The rule with a circuit that has its pattern in it, crossed in any way, and sites there.
-fn with_pattern(random: &mut Random, rule: Rule) -> Draft {
-    let mask = any_mask(random, &rule);
-    let (circuit, end) = planted(random, &rule, mask, 0);
-    aimed(random, rule, circuit, end, mask)
 }
 
 /// The circuit with the rule among a few others, and sites at or near a live gate.

@@ -2,7 +2,7 @@
 
 use std::collections::BTreeMap;
 
-use crate::exports::{Choice, Export, Outcome, EXPORTS};
+use crate::exports::{Export, Outcome, EXPORTS};
 
 /// How many failed tests are shown.
 const SHOWN: u64 = 5;
@@ -42,7 +42,7 @@ impl Tally {
     /// Prints how often each outcome came up; one that never did is a failed test.
     pub fn test_coverage(&mut self) {
         println!(
-            "calls that agreed: ok, refusals as number.table, verdicts or outcomes as =number, choices among masks"
+            "calls that agreed: ok, refusals as number.table, verdicts or outcomes as =number"
         );
         for export in &EXPORTS {
             let counted =
@@ -73,15 +73,5 @@ fn label(outcome: Outcome) -> String {
         Outcome::Success => "ok".to_string(),
         Outcome::Refused(refusal) => format!("{}.{}", refusal.number, refusal.table),
         Outcome::Verdict(verdict) => format!("={verdict}"),
-        Outcome::Choice(choice) => words(choice).to_string(),
-    }
-}
-
-fn words(choice: Choice) -> &'static str {
-    match choice {
-        Choice::Several => "several masks",
-        Choice::NotSmallest => "not the smallest",
-        Choice::EquallyPlain => "one of equally plain",
-        Choice::SpentOnMatch => "spent though one matches",
     }
 }

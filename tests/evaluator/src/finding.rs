@@ -1,13 +1,12 @@
-//! The finder of swap masks (02, 2026-02), which gives the plainest one (02,
-//! 2026-09).
+//! The finder of swap masks (02, 2026-02).
 //!
-//! The search is not run. Masks are taken in ascending order, one for all that
-//! share their trials, and of those that match the plainest is picked. The
-//! trials on the way to each are gathered, and the ways are the different ones
-//! among them: "each trial is one way", whatever becomes of it.
+//! The search is not run. Its orders are those of the numbers: left gates from
+//! the last to the first are mask bits from the highest to the lowest, and "as
+//! written, then crosswise" is 0, then 1. So the search comes upon the masks in
+//! ascending order, and its first match is the smallest matching mask. Its
+//! trials are gathered from the masks up to that one.
 
 use std::collections::HashSet;
-use std::iter;
 use std::ops::Range;
 
 use crate::circuit::Circuit;
@@ -15,8 +14,7 @@ use crate::matching::{bindings, judged_at, part_holds, root_bound, trimmed_and_r
 use crate::refusal::{refuse_if, Answer, NO_TABLE};
 use crate::rules::{Judge, Rule, Verdict};
 
-/// The highest limit of ways, which no search exceeds: fifteen left gates have
-/// at most 2 + 4 + .. + 2^15 trials.
+/// The highest limit of ways.
 pub const MOST_WAYS: u32 = 65_535;
 
 /// The outcomes beside verdicts 1 to 3.
@@ -33,8 +31,8 @@ pub struct Found {
     pub ways: u32,
 }
 
-/// Finds the plainest mask with which a rule matches at a gate of the trimmed
-/// circuit, if the full search has no more ways than the limit.
+/// Finds the smallest mask with which a rule matches at a gate of the trimmed
+/// circuit, if the search for it has no more ways than the limit.
 pub fn find_mask(
     circuit: &[u32],
     rules: &[u32],
@@ -60,42 +58,35 @@ impl Found {
     }
 }
 
-/// All masks with which a rule matches at a gate of the trimmed circuit, in
-/// ascending order; there are none where one of verdicts 1 to 3 is given.
-pub fn matching_masks(circuit: &[u32], rules: &[u32], rule: u32, gate: u32) -> Answer<Vec<u32>> {
-    let (circuit, rules) = trimmed_and_rules(circuit, rules)?;
-    let judged = judged_at(&circuit, &Judge::of(&rules), rule, gate);
-    let matching = |rule| Search::of(&circuit, rule, gate as usize).matching;
-    Ok(judged.map_or(Vec::new(), matching))
-}
-
-/// What the full search comes to: "the search no longer ends at a match", and
-/// here no limit ends it either.
+/// What a search comes to that no limit ends.
 struct Search {
-    matching: Vec<u32>,
+    first_match: Option<u32>,
     ways: u32,
 }
 
 impl Search {
     fn of(circuit: &Circuit, rule: &Rule, gate: usize) -> Search {
+        let last = (1 << rule.left.len()) - 1;
         let matches = |&mask: &u32| bindings(circuit, rule, gate, mask).is_some();
-        let masks = || told_apart(circuit, rule, gate);
-        let trials: HashSet<Trial> = masks()
+        let first_match = (0..=last).find(matches);
+        // "The search ends at its first match, or when no trial is left."
+        let end = first_match.unwrap_or(last);
+        let trials: HashSet<Trial> = (0..=end)
             .flat_map(|mask| trials(circuit, rule, gate, mask))
             .collect();
         Search {
-            matching: masks().filter(matches).collect(),
+            first_match,
             ways: trials.len() as u32,
         }
     }
 
-    /// "Spent", exactly if there are more ways than the limit, whatever masks
-    /// match.
+    /// "Spent", exactly if there are more ways than the limit, whatever the
+    /// search would have come to.
     fn within(self, limit: u32) -> Found {
         if self.ways > limit {
             return Found::without_mask(SPENT, limit);
         }
-        match plainest(&self.matching) {
+        match self.first_match {
             Some(mask) => Found {
                 outcome: MASK,
                 mask,
@@ -104,29 +95,6 @@ impl Search {
             None => Found::without_mask(NONE, self.ways),
         }
     }
-}
-
-/// "The one with the fewest 1 bits, and among those the smallest."
-fn plainest(masks: &[u32]) -> Option<u32> {
-    let masks = masks.iter().copied();
-    masks.min_by_key(|&mask| (mask.count_ones(), mask))
-}
-
-/// The masks of a rule in ascending order. Where the part of a gate does not
-/// hold, the bits below that gate's are of no account: no mask that differs in
-/// them alone matches, and all of these have the same trials. One of them, with
-/// zeros there, stands for all: to walk them all would take too long.
-fn told_apart<'a>(
-    circuit: &'a Circuit,
-    rule: &'a Rule,
-    gate: usize,
-) -> impl Iterator<Item = u32> + 'a {
-    let next = move |&mask: &u32| {
-        let lowest = tried(circuit, rule, gate, mask).start;
-        Some(((mask >> lowest) + 1) << lowest)
-    };
-    let within = |mask: &u32| mask >> rule.left.len() == 0;
-    iter::successors(Some(0), next).take_while(within)
 }
 
 /// A left gate's index, and the bits of that gate and those behind it: masks

@@ -1,5 +1,5 @@
 //! An independent reading of paper 01, "The depth rewriter and its rules", and
-//! of requests 2026-01 to 2026-09 of paper 02, "More changes customers want".
+//! of requests 2026-01 to 2026-08 of paper 02, "More changes customers want".
 //!
 //! Everything here is plain and slow on purpose: each function renders a
 //! sentence or two of the papers, named in its comment by section. Nothing is

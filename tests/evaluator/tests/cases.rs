@@ -10,10 +10,9 @@ use std::path::PathBuf;
 use common::count_constant_sides;
 use evaluator::cases::printed;
 use evaluator::circuit::Circuit;
-use evaluator::finding::matching_masks;
-use evaluator::lines::{lines_of_text, Line};
+use evaluator::lines::lines_of_text;
 use evaluator::listing::{counted, LISTING_BYTES};
-use evaluator::refusal::{Answer, CIRCUIT, RULES, SITES};
+use evaluator::refusal::{Answer, CIRCUIT};
 
 /// In at least so many cases each outcome of each call comes up.
 const LEAST: usize = 5;
@@ -156,22 +155,14 @@ fn every_outcome_of_every_call_comes_up_in_several_cases() {
     }
 }
 
-/// The names of the cases' files, three a case.
-fn names() -> Vec<String> {
-    let args = fs::read_to_string(folder().join("args")).expect("a file that names the cases");
-    args.lines().map(str::to_string).collect()
-}
-
-/// The lines of a file, if it has any.
-fn lines(name: &str, table: u32) -> Answer<Vec<Line>> {
-    let text = fs::read(folder().join("data").join(name)).unwrap_or_default();
-    lines_of_text(counted(&text), table)
-}
-
 /// The circuits of the cases, as far as they are right ones.
 fn circuits() -> Vec<Circuit> {
-    let circuit = |name: &String| Circuit::checked(&lines(name, CIRCUIT)?);
-    names().iter().step_by(3).flat_map(circuit).collect()
+    let args = fs::read_to_string(folder().join("args")).expect("a file that names the cases");
+    let circuit = |name: &str| -> Answer<Circuit> {
+        let text = fs::read(folder().join("data").join(name)).unwrap_or_default();
+        Circuit::checked(&lines_of_text(counted(&text), CIRCUIT)?)
+    };
+    args.lines().step_by(3).flat_map(circuit).collect()
 }
 
 #[test]
@@ -181,30 +172,6 @@ fn ands_with_constants_come_up_in_several_cases() {
         counts.iter().all(|&count| count >= LEAST as u32),
         "{counts:?}"
     );
-}
-
-/// The masks that match in each search of a case.
-fn searches(names: &[String]) -> Answer<Vec<Vec<u32>>> {
-    let circuit = lines(&names[0], CIRCUIT)?.concat();
-    let rules = lines(&names[1], RULES)?.concat();
-    let sites = lines(&names[2], SITES)?;
-    let masks = |&[rule, gate, _]: &Line| matching_masks(&circuit, &rules, rule, gate);
-    sites.iter().skip(1).map(masks).collect()
-}
-
-#[test]
-fn searches_with_masks_to_choose_from_come_up() {
-    let mut counts = [0; 3];
-    for masks in names().chunks_exact(3).flat_map(searches).flatten() {
-        let ones: Vec<u32> = masks.iter().map(|mask| mask.count_ones()).collect();
-        let fewest = ones.iter().min();
-        let plain = ones.iter().filter(|&ones| Some(ones) == fewest).count();
-        counts[0] += usize::from(masks.len() > 1);
-        // The smallest is the first.
-        counts[1] += usize::from(ones.first() != fewest);
-        counts[2] += usize::from(plain > 1);
-    }
-    assert!(counts.iter().all(|&count| count >= LEAST), "{counts:?}");
 }
 
 #[test]

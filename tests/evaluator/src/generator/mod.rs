@@ -13,7 +13,7 @@ use crate::rules::Rule;
 use crate::sites::Site;
 
 pub use damage::FAULTS;
-pub use rules::{branching_rule, differing, spoiled, stock, symmetric_rule};
+pub use rules::{differing, spoiled, stock, symmetric_rule};
 pub use starts::{outnumber, some_starts, spoil_starts};
 
 /// The three texts of a case.

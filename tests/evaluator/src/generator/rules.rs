@@ -406,34 +406,6 @@ fn tree_rule(random: &mut Random, count: usize) -> Rule {
     mirrored(holes, left.collect())
 }
 
-/// A tree of gates of one kind whose branches are alike but for the order of
-/// their operands. At its tips stand a hole and a constant, which tell the
-/// crossed from the uncrossed. Where it is planted, crossing a gate further up
-/// makes other masks match, with more 1 bits or fewer.
-pub fn branching_rule(random: &mut Random) -> Rule {
-    let kind = random.pick(&[X, A]);
-    let any = random.between(1, MOST_SIDE_GATES as usize);
-    // Trees of so many gates are full: the branches of every gate are alike.
-    let count = random.pick(&[any, 3, 7, 15]);
-    let constant = random.below(CONSTANTS);
-    // Of the nodes as above, those beyond the last gate are a hole if they are
-    // even, and if they are odd the constant.
-    let tips = count + 1..=2 * count + 1;
-    let holes: Vec<usize> = tips.filter(|node| node % 2 == 0).collect();
-    let first = CONSTANTS + holes.len();
-    let operand = |node: usize| match holes.iter().position(|&hole| hole == node) {
-        Some(place) => CONSTANTS + place,
-        None if node > count => constant,
-        None => first + count - node,
-    };
-    let gate = |node| {
-        let gate = Gate::new(kind, operand(2 * node), operand(2 * node + 1));
-        random.pick(&[gate, gate.swapped()])
-    };
-    let left = (1..=count).rev().map(gate).collect();
-    mirrored(holes.len(), left)
-}
-
 /// Holes and left gates such that every one of them is used.
 fn random_left(random: &mut Random) -> (usize, Vec<Gate>) {
     let holes = random.between(0, MOST_HOLES as usize);

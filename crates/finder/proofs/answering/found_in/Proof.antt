@@ -11,7 +11,7 @@ use Rattle.rules.specs.Verdict.{passes, judgement, early_verdict}
 use Rattle.rules.proofs.MatchLaws.{gate-below}
 use Rattle.rules.proofs.RefusalLaws.{rule-at-place}
 use Rattle.rules.proofs.JudgedLaws.{judged-small, judged-verdict, judged-place, early-limit, early-none}
-use Rattle.finder.specs.Search.{whole_search, plainest_match, within}
+use Rattle.finder.specs.Search.{whole_search, first_match, within}
 use Rattle.finder.proofs.CallLaws.{in-verdict, in-found}
 use borrow.Author.Rules.{rules}
 use Rattle.finder.proofs.answering.found_in.Statement.{statement}
@@ -62,7 +62,7 @@ returns-2 c =
     let z = none c.before.before in
     let p = early-none (decode a.c.now) a.t.now a.rule a.gate z in
     let s = c.before.search-at in
-    let e = s.ensures ∙ ap (λ (p : ℕ). within a.limit (plainest_match (whole_search (decode a.c.now) (rule_at a.t.now p) a.gate))) (judged-place a.t.now a.rule j.result j.ensures p.0) in
+    let e = s.ensures ∙ ap (λ (p : ℕ). within a.limit (first_match (whole_search (decode a.c.now) (rule_at a.t.now p) a.gate))) (judged-place a.t.now a.rule j.result j.ensures p.0) in
     c.found-by.ensures ∙ ap gives (in-found (decode a.c.now) a.t.now a.rule a.gate a.limit s.result z e)
 
 pub found-in-spec : {M : Type 1} → statement M
