@@ -2,6 +2,8 @@
 // text of lines, read and written back, and as a circuit, measured, evaluated and translated; the rules are judged; each site is matched, and
 // a mask is looked for there; the circuit is rewritten at all sites in order; and last comes what the program `depth_rewriter` prints for the
 // three files.
+#![tactic(auto)]
+
 use circuit::checked::MAX_TABLE;
 use files::print_files;
 use finding::print_findings;

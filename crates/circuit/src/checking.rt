@@ -26,7 +26,7 @@ fn head_in_limits(t: &[u32]) -> bool
 }
 
 // What a walk of the starting lines finds: where they end, and whether they are right, which is refusal 11.
-#[derive(Drop)]
+#[derive(Clone, Copy)]
 struct StartRun {
     end: usize,
     right: bool,
@@ -107,7 +107,7 @@ fn lines_as_head_says(t: &[u32], from: usize) -> bool
 
 // Which refusals do not apply to the lines tested so far: 6 as long as `kinds` is true, 7 as long as `references` is. Both are kept to the
 // end of a walk, since any 6 comes before all 7s.
-#[derive(Drop)]
+#[derive(Clone, Copy)]
 pub struct Tested {
     pub kinds: bool,
     pub references: bool,

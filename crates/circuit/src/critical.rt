@@ -14,7 +14,7 @@ use crate::reverse_depth::{mark_outputs, raise_operands};
 use crate::table::{Gate, MAX_REFERENCES, first_gate, gate_line, gates_from};
 
 // 01's pair (D, N): the depth and the critical count.
-#[derive(Drop)]
+#[derive(Clone, Copy)]
 pub struct DepthPair {
     pub depth: u32,
     pub critical: u32,

@@ -1,4 +1,6 @@
 // Circuits of AND and XOR gates as tables of three numbers a line (01, Circuits; Depth and critical count).
+#![tactic(auto)]
+
 ghost use Rattle.std.specs.Prelude.{◌≡◌};
 ghost use Rattle.lines.specs.Refusal.{leaving};
 ghost use Rattle.lines.specs.Checks.{first_found};
@@ -23,14 +25,14 @@ use table::MAX_OUTPUTS;
 pub const CIRCUIT_TABLE: u32 = 1;
 
 // The number of outputs that were given, or the refusal.
-#[derive(Drop)]
+#[derive(Clone, Copy)]
 pub enum Evaluated {
     Outputs(u32),
     Refused(Refusal),
 }
 
 // 01's pair (D, N), the depth and the critical count, or the refusal.
-#[derive(Drop)]
+#[derive(Clone, Copy)]
 pub enum Measured {
     Pair { depth: u32, critical: u32 },
     Refused(Refusal),

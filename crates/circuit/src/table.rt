@@ -44,7 +44,7 @@ pub const MIN_LEVEL: u32 = 1;
 pub const MAX_LEVEL: u32 = 255;
 
 // A gate: its kind and its two operands. Closing lines, and the lines of a rule, are read as the same three numbers.
-#[derive(Drop)]
+#[derive(Clone, Copy)]
 pub struct Gate {
     pub kind: u32,
     pub left: u32,

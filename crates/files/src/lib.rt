@@ -1,4 +1,6 @@
 // The job of the program `depth_rewriter`, for files of any names.
+#![tactic(auto)]
+
 ghost use Rattle.io.specs.Counts.{IsPrefixLen};
 
 use libc::STDOUT_FILENO;

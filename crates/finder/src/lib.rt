@@ -1,4 +1,6 @@
 // The finder of swap masks (02, 2026-02).
+#![tactic(auto)]
+
 ghost use Rattle.std.specs.Prelude.{◌≡◌};
 ghost use Rattle.lines.specs.Checks.{first_found};
 ghost use Rattle.finder.specs.FindCall.{paper_values, is_limit, find_checks, finding};
@@ -21,7 +23,7 @@ pub const NO_MASK: u32 = 4;
 pub const SPENT: u32 = 5;
 
 // A mask with the ways tried; one of the verdicts 1 to 3; "none" with the ways tried; "spent" with the limit.
-#[derive(Drop)]
+#[derive(Clone, Copy)]
 pub enum Found {
     Mask { mask: u32, ways: u32 },
     Verdict(u32),

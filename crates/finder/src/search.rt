@@ -12,7 +12,7 @@ use circuit::checked::gates_from;
 use rules::checked::{BINDINGS, match_left, start_bindings};
 
 // What a search has found: whether there is a match, its mask, else 0, and the ways tried.
-#[derive(Drop)]
+#[derive(Clone, Copy)]
 pub struct Searched {
     pub matched: bool,
     pub mask: u32,

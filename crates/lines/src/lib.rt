@@ -1,4 +1,6 @@
 // Texts of lines of three numbers, and tables of the same numbers (01, Lines). Nothing here knows what the numbers mean.
+#![tactic(auto)]
+
 ghost use Rattle.std.specs.Prelude.{◌≡◌};
 ghost use Rattle.lines.specs.Line.{is_row};
 ghost use Rattle.lines.specs.Refusal.{paper_values, leaving};
@@ -19,14 +21,14 @@ use text::{read_lines, write_lines};
 pub const NO_TABLE: u32 = 0;
 
 // Why a call was refused: 01's number, and the table that the fault lies in, 0 where it lies in none.
-#[derive(Drop)]
+#[derive(Clone, Copy)]
 pub struct Refusal {
     pub number: u32,
     pub table: u32,
 }
 
 // The number of lines that were found, read or written, or the refusal.
-#[derive(Drop)]
+#[derive(Clone, Copy)]
 pub enum Answer {
     Lines(usize),
     Refused(Refusal),

@@ -33,7 +33,7 @@ pub const MAX_LISTING: usize = 19 * LISTING_LINES;
 const MAX_VERDICTS: usize = MAX_SITES as usize;
 
 // How many bytes the listing has, or the refusal.
-#[derive(Drop)]
+#[derive(Clone, Copy)]
 pub enum Listed {
     Length(usize),
     Refused(Refusal),

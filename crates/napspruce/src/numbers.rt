@@ -17,7 +17,7 @@ const COUNTS: u32 = 7;
 const VERDICT: u32 = 8;
 
 // The pair of the circuit first read, that of the circuit handed back, how many sites there are, and how many of them were kept.
-#[derive(Drop)]
+#[derive(Clone, Copy)]
 pub struct Summary {
     pub old: DepthPair,
     pub new: DepthPair,

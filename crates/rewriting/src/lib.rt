@@ -1,4 +1,6 @@
 // Rewriting a circuit at a list of sites (01, Sites): replacement, verdicts, and the run over the list.
+#![tactic(auto)]
+
 ghost use Rattle.std.specs.Prelude.{◌≡◌};
 ghost use Rattle.lines.specs.Checks.{first_found};
 ghost use Rattle.rewriting.specs.RewriteCall.{paper_values as rewritten_values, outcome_of, are_short, rewrite_checks, rewriting};
@@ -19,7 +21,7 @@ const MAX_VERDICTS: usize = MAX_SITES as usize;
 
 // How many lines the circuit handed back has, the pair of the circuit first read, the pair of the one handed back, and how many sites
 // were kept; or the refusal.
-#[derive(Drop)]
+#[derive(Clone, Copy)]
 pub enum Rewritten {
     Done {
         lines: u32,

@@ -22,7 +22,7 @@ use lines::checked::write_row;
 use rules::checked::{BINDINGS, RightSide, right_side};
 
 // What each use of a reference is renumbered by: the site's gate, what that becomes, and how many gates take its place.
-#[derive(Drop)]
+#[derive(Clone, Copy)]
 struct Renaming {
     gate: u32,
     closing: u32,

@@ -35,7 +35,7 @@ const NOT_LOWER: u32 = 6;
 
 // What is handed on from site to site beside the working table and the depths of its circuit: where the circuit's table there ends, its
 // pair, and how many sites were kept.
-#[derive(Drop)]
+#[derive(Clone, Copy)]
 pub struct Run {
     pub end: usize,
     pub depth: u32,
@@ -44,7 +44,7 @@ pub struct Run {
 }
 
 // The next run, and the site's verdict.
-#[derive(Drop)]
+#[derive(Clone, Copy)]
 pub struct Stepped {
     pub run: Run,
     pub verdict: u32,

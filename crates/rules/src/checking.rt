@@ -63,7 +63,7 @@ fn owed(root: u32) -> u32
 }
 
 // What the left gate lines of a rule leave of what was tested earlier, and the word of the references that they use.
-#[derive(Drop)]
+#[derive(Clone, Copy)]
 struct LeftTested {
     kinds: bool,
     references: bool,
@@ -94,7 +94,7 @@ fn test_lefts(t: &[u32], q: usize, n: usize, first: u32, earlier: Tested) -> Lef
 
 // Which refusals do not apply to the rules tested so far: 6 as long as `kinds` is true, 7 as long as `references` is, 8 as long as `uses` is.
 // They are kept to the end of the walk, since any 6 comes before all 7s, and any 7 before all 8s.
-#[derive(Drop)]
+#[derive(Clone, Copy)]
 struct RulesTested {
     kinds: bool,
     references: bool,

@@ -62,7 +62,7 @@ const START_WORDS: [u64; BINDINGS] = [
 ];
 
 // A rule's place in its table, and the judge's verdict on it.
-#[derive(Drop)]
+#[derive(Clone, Copy)]
 pub struct JudgedRule {
     pub place: usize,
     pub verdict: u32,

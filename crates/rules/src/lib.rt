@@ -1,4 +1,6 @@
 // Rules and sites as tables of three numbers a line: their checks, the judge and the match (01, Rules; Sites).
+#![tactic(auto)]
+
 ghost use Rattle.std.specs.Prelude.{◌≡◌};
 ghost use Rattle.rules.specs.JudgeCall.{judging, paper_values as judged_values};
 ghost use Rattle.rules.specs.MatchCall.{matching, paper_values as matched_values};
@@ -33,21 +35,21 @@ pub const NOT_A_GATE: u32 = 3;
 pub const NO_MATCH: u32 = 4;
 
 // The judge's verdict, 1 or 2, else 0.
-#[derive(Drop)]
+#[derive(Clone, Copy)]
 pub enum Judged {
     Verdict(u32),
     Refused(Refusal),
 }
 
 // The match's verdict, the first of 1 to 4 that applies, else 0.
-#[derive(Drop)]
+#[derive(Clone, Copy)]
 pub enum Matched {
     Verdict(u32),
     Refused(Refusal),
 }
 
 // What a reference is in a circuit.
-#[derive(Drop)]
+#[derive(Clone, Copy)]
 pub enum ReferenceKind {
     Constant,
     Input,

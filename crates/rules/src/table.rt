@@ -27,7 +27,7 @@ pub const BINDINGS: usize = (CONSTANTS + MAX_HOLES + MAX_LEFTS) as usize;
 
 // What a rule's right side is read by: its base, which is the reference of its first gate, how many gates it has, where their lines
 // begin, and its closing reference.
-#[derive(Drop)]
+#[derive(Clone, Copy)]
 pub struct RightSide {
     pub base: u32,
     pub count: u32,

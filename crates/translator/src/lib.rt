@@ -1,4 +1,6 @@
 // Circuits as programs for a machine of few registers (01, Register program).
+#![tactic(auto)]
+
 ghost use Rattle.std.specs.Prelude.{◌≡◌};
 ghost use Rattle.lines.specs.Refusal.{leaving};
 ghost use Rattle.lines.specs.Checks.{first_found};
@@ -23,7 +25,7 @@ pub const MAX_REGISTERS: usize = 1024;
 pub const PROGRAM_NUMBERS: usize = 4 * (MAX_REFERENCES + MAX_OUTPUTS as usize);
 
 // How many instructions the program has, and the circuit's need, 01's word for its register pressure; or the refusal.
-#[derive(Drop)]
+#[derive(Clone, Copy)]
 pub enum Translated {
     Program { instructions: u32, need: u32 },
     Refused(Refusal),

@@ -13,7 +13,7 @@ use crate::writing::write_instruction;
 use circuit::checked::MAX_REFERENCES;
 
 // How many registers are free again, how many were ever used, and how many instructions are written.
-#[derive(Drop)]
+#[derive(Clone, Copy)]
 pub struct Counts {
     pub free: usize,
     pub fresh: usize,
