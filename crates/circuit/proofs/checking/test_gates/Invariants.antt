@@ -1,0 +1,7 @@
+use Prim.Native.Nat.{◌≤◌}
+use Rattle.circuit.specs.Refusal.{has_gate_kind, operands_below}
+use Rattle.circuit.proofs.EachLaws.{Tests}
+use Rattle.circuit.proofs.checking.test_gates.Given as goal
+
+abbrev pub invariant-loop-i : goal.invariant-loop-i
+invariant-loop-i l = (l.i ≤ l.n) × Tests has_gate_kind l.first l.q l.n l.t l.initial.tested.kinds l.i l.tested.kinds × Tests operands_below l.first l.q l.n l.t l.initial.tested.references l.i l.tested.references

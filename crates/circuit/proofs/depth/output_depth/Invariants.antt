@@ -1,0 +1,10 @@
+use mathlib.Core.List.{map}
+use mathlib.Core.Path.{◌≡◌}
+use Prim.Native.Nat.{◌≤◌, max}
+use lib.ListN.{drop}
+use Rattle.circuit.specs.Depth.{depth, largest}
+use Rattle.circuit.specs.Table.{decode}
+use Rattle.circuit.proofs.depth.output_depth.Given as goal
+
+abbrev pub invariant-loop-i : goal.invariant-loop-i
+invariant-loop-i l = (l.i ≤ l.outputs) × (max l.deepest (largest (map (depth (decode l.t)) (drop l.i (decode l.t).outputs))) ≡ largest (map (depth (decode l.t)) (decode l.t).outputs))
