@@ -4,10 +4,8 @@ use mathlib.Core.Bool.{Bool, true, false}
 use Prim.Native.Nat.{◌+◌, ◌<◌}
 use mir.Val.{bool_byte}
 use native.Mathlib.Omega.{arith}
-use borrow.Author.Rules.{rules}
 use Rattle.translator.specs.Pressure.{one_if}
-use Rattle.translator.proofs.pressure.count_true.Statement.{statement}
-use Rattle.translator.proofs.pressure.count_true.Tie as tie
+use Rattle.translator.proofs.pressure.count_true.Goals as goal
 
 -- bools as numbers
 both : (a b : Bool) → bool_byte a + bool_byte b ≡ one_if a + one_if b
@@ -22,17 +20,8 @@ few true false = omega arith
 few false true = omega arith
 few false false = omega arith
 
-add-result : tie.Need-overflow-add-result
-add-result c = record { fits = few c.args.a c.args.b }
+pub overflow_add-result : goal.overflow_add-result
+overflow_add-result c = record { fits = few c.args.a c.args.b }
 
-returns : tie.Need-returns
+pub returns : goal.returns
 returns c = both c.args.a c.args.b
-
-pub count-true-spec : {M : Type 1} → statement M
-count-true-spec =
-    tie.close
-    (tie.spec
-    (λ c. search rules)  -- cast-result
-    (λ c. search rules)  -- cast-result-2
-    add-result
-    returns)

@@ -1,0 +1,13 @@
+use Prim.Native.Nat.{◌+◌, ◌≤◌}
+use mathlib.Core.Path.{◌≡◌}
+use lib.ListN.{length}
+use Rattle.circuit.specs.Circuit.{max_references}
+use Rattle.circuit.specs.Table.{outputs}
+use Rattle.translator.proofs.LastUseLaws.{UsesFrom}
+use Rattle.translator.proofs.last_use.mark_outputs.Given as goal
+
+abbrev pub invariant-loop-i : goal.invariant-loop-i
+invariant-loop-i l = (l.i ≤ outputs l.t) × (length l.last ≡ max_references) × (l.distinct + l.i ≤ outputs l.t) × UsesFrom l.t l.last l.distinct l.i
+
+abbrev pub decreases-loop-i : goal.decreases-loop-i
+decreases-loop-i l = l.i

@@ -1,0 +1,10 @@
+use mathlib.Core.Path.{◌≡◌}
+use Prim.Native.Nat.{◌≤◌}
+use lib.ListN.{length}
+use Rattle.circuit.specs.Circuit.{max_references}
+use Rattle.circuit.specs.Table.{decode}
+use Rattle.translator.proofs.CountingLaws.{UnloadedTo, HeldTo}
+use Rattle.translator.proofs.pressure.most_held.Given as goal
+
+abbrev pub invariant-loop-i : goal.invariant-loop-i
+invariant-loop-i l = (l.i ≤ l.gates) × (length l.unloaded ≡ max_references) × UnloadedTo (decode l.t) l.unloaded l.i × HeldTo l.t l.held l.most l.i
