@@ -1,5 +1,4 @@
 -- By the laws of the verdict so far: none applies, by its limit, or the one that does is given.
-use mathlib.Core.Logic.{⊎_elim}
 use mathlib.Core.Path.{◌≡◌, ◌∙◌}
 use native.Mathlib.Omega.{arith}
 use borrow.Author.Tests.{eqb-true}

@@ -1,5 +1,4 @@
 -- Each arm is a case of the chain; what is neither of the judge's verdicts, by its limit, is 0.
-use mathlib.Core.Logic.{⊎_elim}
 use mathlib.Core.Path.{◌≡◌}
 use native.Mathlib.Omega.{arith}
 use borrow.Author.Tests.{eq-eqb, ne_eqb}
