@@ -5,10 +5,10 @@ use native.Mathlib.Omega.{arith}
 use lib.ListN.{length-replicate}
 use Rattle.lines.proofs.CallLaws.{whole_is}
 use Rattle.circuit.specs.Circuit.{max_table}
-use Rattle.rules.specs.SiteTable.{site_count, max_sites}
+use Rattle.rules.specs.SiteTable.{max_sites}
 use Rattle.rewriting.specs.RewriteCall.{paper_values as rewritten_values, outcome_of}
 use Rattle.napspruce.specs.ListingCall.{listing_numbers}
-use Rattle.napspruce.proofs.CallLaws.{Rewrote, rewrote, enough-room, listed-done, listed-refused}
+use Rattle.napspruce.proofs.CallLaws.{rewrote, enough-room, listed-done, listed-refused}
 use Rattle.napspruce.proofs.listing.list_tables.Goals as goal
 
 pub bounds-sites-0 : goal.bounds-sites-0

@@ -1,5 +1,4 @@
 -- The match's own verdict, or, where it is 0, that of the sizes: laws `within-..`.
-use mathlib.Core.Logic.{⊎_elim}
 use mathlib.Core.Path.{◌≡◌, sym, ◌∙◌}
 use Prim.Native.Nat.{◌≤◌}
 use native.Mathlib.Omega.{arith}

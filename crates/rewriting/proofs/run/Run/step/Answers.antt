@@ -1,5 +1,4 @@
 -- Before replacement by `step-before`, after it by `replaced-step`; the replaced table is what `measure_and_settle` asks for.
-use mathlib.Core.Logic.{⊎_elim}
 use mathlib.Core.Path.{◌≡◌, refl, sym, ap, ap₂, ◌∙◌}
 use mathlib.Core.List.{List}
 use Prim.Native.Nat.{ℕ, ◌≤◌}
