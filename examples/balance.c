@@ -1,7 +1,7 @@
 /* Tries every call on a circuit, ((2 * 3) * 4) * 5 of four inputs, and the rule from ((v * w) * y) * z to (v * w) * (y * z) at its last gate:
  * by tables, then by texts; and then with an input that arrives at a level.
  *
- *   rt staticlib napspruce && cc -Iinclude examples/balance.c target/staticlib/libnapspruce.a -o target/balance && target/balance
+ *   tools/library && cc -Iinclude examples/balance.c target/staticlib/libnapspruce.a -o target/balance && target/balance
  */
 #include <stdio.h>
 #include <stdlib.h>

@@ -1,7 +1,7 @@
 /* A planner's question: at which gates of a circuit does a rule match, and with which mask? The circuit is 5 * (4 * (2 * 3)), the rule leads from
  * ((v * w) * y) * z to (v * w) * (y * z). Prints what each gate gets, and the sites that were found as a text for napspruce_listing.
  *
- *   rt staticlib napspruce && cc -Iinclude examples/planner.c target/staticlib/libnapspruce.a -o target/planner && target/planner
+ *   tools/library && cc -Iinclude examples/planner.c target/staticlib/libnapspruce.a -o target/planner && target/planner
  */
 #include <stdio.h>
 
