@@ -5,37 +5,38 @@ ghost use Rattle.circuit.specs.Circuit.{max_inputs};
 use crate::printing::print_refusal;
 use circuit::checked::MAX_INPUTS;
 use circuit::{Evaluated, Measured};
-use libc::STDOUT_FILENO;
+use std::io;
 
 // One input byte more than any circuit asks for.
 const PATTERN_BYTES: usize = MAX_INPUTS as usize + 1;
 
-pub fn print_pair(table: &[u32]) {
+pub fn print_pair(rt: &impl Print, table: &[u32]) -> io::Result<()> {
     match circuit::measure(table) {
-        Measured::Pair { depth, critical } => {
-            io::write_all(STDOUT_FILENO, b" D ");
-            io::print_decimal(STDOUT_FILENO, depth as u64);
-            io::write_all(STDOUT_FILENO, b" N ");
-            io::print_decimal(STDOUT_FILENO, critical as u64);
-        }
-        Measured::Refused(refusal) => print_refusal(refusal),
+        Measured::Pair { depth, critical } => print!(rt; " D {depth} N {critical}"),
+        Measured::Refused(refusal) => print_refusal(rt, refusal),
     }
 }
 
-fn print_bits(bits: &[u8]) {
-    io::write_all(STDOUT_FILENO, b" ");
-    for i in 0..bits.len() {
-        io::print_decimal(STDOUT_FILENO, bits[i] as u64);
+fn print_bits(rt: &impl Print, bits: &[u8]) -> io::Result<()> {
+    print!(rt; " ")?;
+    for bit in bits {
+        print!(rt; "{bit}")?;
     }
+    Ok(())
 }
 
-fn print_evaluation(table: &[u32], inputs: &[u8], outputs: &mut [u8]) {
+fn print_evaluation(
+    rt: &impl Print,
+    table: &[u32],
+    inputs: &[u8],
+    outputs: &mut [u8],
+) -> io::Result<()> {
     match circuit::evaluate(table, inputs, outputs) {
         Evaluated::Outputs(count) => {
-            let shown = io::count(count as isize, outputs);
-            print_bits(&outputs[..shown]);
+            let shown = (count as usize).min(outputs.len());
+            print_bits(rt, &outputs[..shown])
         }
-        Evaluated::Refused(refusal) => print_refusal(refusal),
+        Evaluated::Refused(refusal) => print_refusal(rt, refusal),
     }
 }
 
@@ -54,20 +55,20 @@ pub fn pattern(number: usize) -> [u8; PATTERN_BYTES]
     bytes
 }
 
-fn print_pattern(table: &[u32], number: usize, inputs: usize)
+fn print_pattern(rt: &impl Print, table: &[u32], number: usize, inputs: usize) -> io::Result<()>
     requires { inputs ≤ max_inputs + 1 }
 {
     let bytes = pattern(number);
     let mut outputs = [0u8; 256];
-    print_evaluation(table, &bytes[..inputs], &mut outputs);
+    print_evaluation(rt, table, &bytes[..inputs], &mut outputs)
 }
 
-fn print_short(table: &[u32], inputs: usize)
+fn print_short(rt: &impl Print, table: &[u32], inputs: usize) -> io::Result<()>
     requires { inputs ≤ max_inputs + 1 }
 {
     let bytes = pattern(0);
     let mut outputs = [0u8; 255];
-    print_evaluation(table, &bytes[..inputs], &mut outputs);
+    print_evaluation(rt, table, &bytes[..inputs], &mut outputs)
 }
 
 // As many input bytes as the table's head asks for, which may say anything.
@@ -85,12 +86,12 @@ pub fn input_count(table: &[u32]) -> usize
     }
 }
 
-pub fn print_evaluations(table: &[u32]) {
+pub fn print_evaluations(rt: &impl Print, table: &[u32]) -> io::Result<()> {
     let inputs = input_count(table);
-    print_pattern(table, 0, inputs);
-    print_pattern(table, 1, inputs);
-    print_pattern(table, 2, inputs);
-    print_pattern(table, 3, inputs);
-    print_pattern(table, 0, inputs + 1);
-    print_short(table, inputs);
+    print_pattern(rt, table, 0, inputs)?;
+    print_pattern(rt, table, 1, inputs)?;
+    print_pattern(rt, table, 2, inputs)?;
+    print_pattern(rt, table, 3, inputs)?;
+    print_pattern(rt, table, 0, inputs + 1)?;
+    print_short(rt, table, inputs)
 }

@@ -4,7 +4,7 @@ ghost use Rattle.translator.specs.Machine.{max_registers};
 
 use crate::printing::{print_byte, print_number};
 use circuit::checked::{CONSTANTS, START};
-use libc::STDOUT_FILENO;
+use std::io;
 use translator::MAX_REGISTERS;
 
 // The largest limit.
@@ -95,16 +95,22 @@ fn operate(
     (x != NOTHING) & (y != NOTHING)
 }
 
-fn emit(bits: &[u8; MAX_REGISTERS], levels: &[u32; MAX_REGISTERS], a: usize) -> bool
+fn emit(
+    rt: &impl Print,
+    bits: &[u8; MAX_REGISTERS],
+    levels: &[u32; MAX_REGISTERS],
+    a: usize,
+) -> io::Result<bool>
     requires { a < max_registers }
 {
-    print_byte(bits[a]);
-    print_number(levels[a]);
-    bits[a] != NOTHING
+    print_byte(rt, bits[a])?;
+    print_number(rt, levels[a])?;
+    Ok(bits[a] != NOTHING)
 }
 
 // One instruction. It answers false for a fault.
 fn perform(
+    rt: &impl Print,
     bits: &mut [u8; MAX_REGISTERS],
     levels: &mut [u32; MAX_REGISTERS],
     public: &mut [bool; MAX_REGISTERS],
@@ -115,24 +121,24 @@ fn perform(
     first: u32,
     second: u32,
     third: u32,
-) -> bool
+) -> io::Result<bool>
     requires { limit ≤ max_registers }
 {
     if limit <= first {
-        return false;
+        return Ok(false);
     }
     match opcode {
         3 => {
             if (second != 0) | (third != 0) {
-                return false;
+                return Ok(false);
             }
-            emit(bits, levels, first as usize)
+            emit(rt, bits, levels, first as usize)
         }
         4 => {
             if third != 0 {
-                return false;
+                return Ok(false);
             }
-            load(
+            Ok(load(
                 bits,
                 levels,
                 public,
@@ -140,16 +146,16 @@ fn perform(
                 start_bit(inputs, second),
                 start_level(circuit, second),
                 second < CONSTANTS,
-            )
+            ))
         }
         1..=2 => {
             if limit <= second {
-                return false;
+                return Ok(false);
             }
             if limit <= third {
-                return false;
+                return Ok(false);
             }
-            operate(
+            Ok(operate(
                 bits,
                 levels,
                 public,
@@ -157,16 +163,22 @@ fn perform(
                 first as usize,
                 second as usize,
                 third as usize,
-            )
+            ))
         }
-        _ => false,
+        _ => Ok(false),
     }
 }
 
 // Runs a program of the circuit, and prints a bit and a level an emit.
-pub fn print_run(circuit: &[u32], program: &[u32], limit: u32, inputs: &[u8]) {
+pub fn print_run(
+    rt: &impl Print,
+    circuit: &[u32],
+    program: &[u32],
+    limit: u32,
+    inputs: &[u8],
+) -> io::Result<()> {
     if MAX_LIMIT < limit {
-        return;
+        return Ok(());
     }
     let mut bits = [NOTHING; MAX_REGISTERS];
     let mut levels = [0u32; MAX_REGISTERS];
@@ -176,6 +188,7 @@ pub fn print_run(circuit: &[u32], program: &[u32], limit: u32, inputs: &[u8]) {
     while i < count {
         let p = 4 * i;
         if !perform(
+            rt,
             &mut bits,
             &mut levels,
             &mut public,
@@ -186,10 +199,10 @@ pub fn print_run(circuit: &[u32], program: &[u32], limit: u32, inputs: &[u8]) {
             program[p + 1],
             program[p + 2],
             program[p + 3],
-        ) {
-            io::write_all(STDOUT_FILENO, b" fault");
-            return;
+        )? {
+            return print!(rt; " fault");
         }
         i += 1;
     }
+    Ok(())
 }

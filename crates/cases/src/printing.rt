@@ -1,35 +1,28 @@
 // Answers as words.
-use libc::STDOUT_FILENO;
 use lines::{Answer, Refusal};
+use std::io;
 
 // Prints `refused`, the number and the table.
-pub fn print_refusal(refusal: Refusal) {
-    io::write_all(STDOUT_FILENO, b" refused ");
-    io::print_decimal(STDOUT_FILENO, refusal.number as u64);
-    io::write_all(STDOUT_FILENO, b" ");
-    io::print_decimal(STDOUT_FILENO, refusal.table as u64);
+pub fn print_refusal(rt: &impl Print, refusal: Refusal) -> io::Result<()> {
+    print!(rt; " refused {} {}", refusal.number, refusal.table)
 }
 
 // Prints `lines` and how many, or the refusal.
-pub fn print_answer(answer: Answer) {
+pub fn print_answer(rt: &impl Print, answer: Answer) -> io::Result<()> {
     match answer {
-        Answer::Lines(lines) => {
-            io::write_all(STDOUT_FILENO, b" lines ");
-            io::print_decimal(STDOUT_FILENO, lines as u64);
-        }
-        Answer::Refused(refusal) => print_refusal(refusal),
+        Answer::Lines(lines) => print!(rt; " lines {lines}"),
+        Answer::Refused(refusal) => print_refusal(rt, refusal),
     }
 }
 
-pub fn print_size(number: usize) {
-    io::write_all(STDOUT_FILENO, b" ");
-    io::print_decimal(STDOUT_FILENO, number as u64);
+pub fn print_size(rt: &impl Print, number: usize) -> io::Result<()> {
+    print!(rt; " {number}")
 }
 
-pub fn print_number(number: u32) {
-    print_size(number as usize);
+pub fn print_number(rt: &impl Print, number: u32) -> io::Result<()> {
+    print_size(rt, number as usize)
 }
 
-pub fn print_byte(byte: u8) {
-    print_number(byte as u32);
+pub fn print_byte(rt: &impl Print, byte: u8) -> io::Result<()> {
+    print_number(rt, byte as u32)
 }

@@ -1,6 +1,6 @@
 // A text read into a table and written back.
 ghost use Rattle.std.specs.Prelude.{◌≡◌};
-ghost use Rattle.io.specs.Counts.{IsPrefixLen};
+ghost use Rattle.std.specs.Counts.{IsPrefixLen};
 ghost use Rattle.lines.specs.Refusal.{paper_values, leaving};
 ghost use Rattle.lines.specs.Calls.{reading};
 ghost use Rattle.cases.specs.Recoding.{recoding};

@@ -1,9 +1,9 @@
 // What the call `rewrite` gives for tables, and what it leaves in the buffers.
 use crate::printing::{print_byte, print_number, print_refusal};
 use circuit::checked::MAX_TABLE;
-use libc::STDOUT_FILENO;
 use rewriting::Rewritten;
 use rules::checked::MAX_SITES;
+use std::io;
 
 // What buffers are filled with before: no table has the one, and no verdict is the other.
 const NO_NUMBER: u32 = 4_294_967_295;
@@ -11,13 +11,14 @@ const NO_NUMBER: u32 = 4_294_967_295;
 const NO_VERDICT: u8 = 255;
 
 // Prints the numbers that were written at the front of a buffer.
-fn print_table(table: &[u32]) {
+fn print_table(rt: &impl Print, table: &[u32]) -> io::Result<()> {
     for i in 0..table.len() {
         if table[i] == NO_NUMBER {
-            return;
+            return Ok(());
         }
-        print_number(table[i]);
+        print_number(rt, table[i])?;
     }
+    Ok(())
 }
 
 // How many places of a buffer were written.
@@ -33,15 +34,16 @@ fn written(table: &[u32]) -> u32 {
     count
 }
 
-fn print_verdicts(verdicts: &[u8]) {
+fn print_verdicts(rt: &impl Print, verdicts: &[u8]) -> io::Result<()> {
     for i in 0..verdicts.len() {
         if verdicts[i] != NO_VERDICT {
-            print_byte(verdicts[i]);
+            print_byte(rt, verdicts[i])?;
         }
     }
+    Ok(())
 }
 
-fn print_answer(answer: Rewritten) {
+fn print_answer(rt: &impl Print, answer: Rewritten) -> io::Result<()> {
     match answer {
         Rewritten::Done {
             lines,
@@ -51,27 +53,33 @@ fn print_answer(answer: Rewritten) {
             new_critical,
             kept,
         } => {
-            print_number(lines);
-            print_number(old_depth);
-            print_number(old_critical);
-            print_number(new_depth);
-            print_number(new_critical);
-            print_number(kept);
+            print_number(rt, lines)?;
+            print_number(rt, old_depth)?;
+            print_number(rt, old_critical)?;
+            print_number(rt, new_depth)?;
+            print_number(rt, new_critical)?;
+            print_number(rt, kept)
         }
-        Rewritten::Refused(refusal) => print_refusal(refusal),
+        Rewritten::Refused(refusal) => print_refusal(rt, refusal),
     }
 }
 
 // The answer; the table that was written, and how many numbers were; and the verdicts.
-pub fn print_rewriting(circuit: &[u32], rules: &[u32], sites: &[u32]) {
-    let mut result = [NO_NUMBER; MAX_TABLE + 1];
+pub fn print_rewriting(
+    rt: &impl Print,
+    circuit: &[u32],
+    rules: &[u32],
+    sites: &[u32],
+) -> io::Result<()> {
+    let mut table = [NO_NUMBER; MAX_TABLE + 1];
     let mut work = [0u32; MAX_TABLE];
     let mut verdicts = [NO_VERDICT; MAX_SITES as usize + 1];
-    print_answer(rewriting::rewrite(circuit, rules, sites, &mut result, &mut work, &mut verdicts));
-    io::write_all(STDOUT_FILENO, b" table");
-    print_table(&result);
-    io::write_all(STDOUT_FILENO, b" written");
-    print_number(written(&result));
-    io::write_all(STDOUT_FILENO, b" verdicts");
-    print_verdicts(&verdicts);
+    let answer = rewriting::rewrite(circuit, rules, sites, &mut table, &mut work, &mut verdicts);
+    print_answer(rt, answer)?;
+    print!(rt; " table")?;
+    print_table(rt, &table)?;
+    print!(rt; " written")?;
+    print_number(rt, written(&table))?;
+    print!(rt; " verdicts")?;
+    print_verdicts(rt, &verdicts)
 }

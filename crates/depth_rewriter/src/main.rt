@@ -3,6 +3,6 @@
 
 use files::print_files;
 
-fn main() {
-    print_files(b"circuit", b"rules", b"sites");
+fn main(rt: HostRuntime) {
+    print_files(&rt, b"circuit", b"rules", b"sites");
 }

@@ -1,4 +1,4 @@
-// The calls for C, one each. A slice is a pointer and a count of elements; the answer comes back as one number (specs/Packing.antt).
+// The calls for C, one each; crate napspruce_c exports them. The answer comes back as one number (specs/Packing.antt).
 ghost use Rattle.std.specs.Prelude.{◌≡◌};
 ghost use Rattle.lines.specs.Calls.{reading, writing};
 ghost use Rattle.circuit.specs.EvaluateCall.{evaluating};
@@ -23,8 +23,7 @@ use rules::{Judged, Matched};
 use translator::Translated;
 
 // Reads a text into a table. Gives 0.
-#[unsafe(no_mangle)]
-pub extern "C" fn napspruce_read(text: &[u8], table: &mut [u32]) -> u64
+pub fn napspruce_read(text: &[u8], table: &mut [u32]) -> u64
     ensures { packed_leaving result table.new ≡ pack_outcome pack_lines (reading text.now table.old) }
 {
     match lines::read(text, table) {
@@ -34,8 +33,7 @@ pub extern "C" fn napspruce_read(text: &[u8], table: &mut [u32]) -> u64
 }
 
 // Writes a table as a text. Gives 0.
-#[unsafe(no_mangle)]
-pub extern "C" fn napspruce_write(table: &[u32], text: &mut [u8]) -> u64
+pub fn napspruce_write(table: &[u32], text: &mut [u8]) -> u64
     ensures { packed_leaving result text.new ≡ pack_outcome pack_lines (writing table.now text.old) }
 {
     match lines::write(table, text) {
@@ -45,8 +43,7 @@ pub extern "C" fn napspruce_write(table: &[u32], text: &mut [u8]) -> u64
 }
 
 // The bits that a circuit gives for input bytes. Gives the number of outputs.
-#[unsafe(no_mangle)]
-pub extern "C" fn napspruce_evaluate(circuit: &[u32], inputs: &[u8], outputs: &mut [u8]) -> u64
+pub fn napspruce_evaluate(circuit: &[u32], inputs: &[u8], outputs: &mut [u8]) -> u64
     ensures { packed_leaving result outputs.new ≡ pack_outcome pack_one
         (evaluating circuit.now inputs.now outputs.old) }
 {
@@ -57,8 +54,7 @@ pub extern "C" fn napspruce_evaluate(circuit: &[u32], inputs: &[u8], outputs: &m
 }
 
 // Gives the depth and the critical count.
-#[unsafe(no_mangle)]
-pub extern "C" fn napspruce_measure(circuit: &[u32]) -> u64
+pub fn napspruce_measure(circuit: &[u32]) -> u64
     ensures { result ≡ pack pack_pair (measuring circuit.now) }
 {
     match circuit::measure(circuit) {
@@ -68,8 +64,7 @@ pub extern "C" fn napspruce_measure(circuit: &[u32]) -> u64
 }
 
 // Gives the verdict on a rule.
-#[unsafe(no_mangle)]
-pub extern "C" fn napspruce_judge(rules: &[u32], rule: u32) -> u64
+pub fn napspruce_judge(rules: &[u32], rule: u32) -> u64
     ensures { result ≡ pack pack_one (judging rules.now rule) }
 {
     match rules::judge(rules, rule) {
@@ -79,14 +74,7 @@ pub extern "C" fn napspruce_judge(rules: &[u32], rule: u32) -> u64
 }
 
 // Gives the verdict on a site before anything is replaced there.
-#[unsafe(no_mangle)]
-pub extern "C" fn napspruce_match(
-    circuit: &[u32],
-    rules: &[u32],
-    rule: u32,
-    gate: u32,
-    mask: u32,
-) -> u64
+pub fn napspruce_match(circuit: &[u32], rules: &[u32], rule: u32, gate: u32, mask: u32) -> u64
     ensures { result ≡ pack pack_one (matching circuit.now rules.now rule gate mask) }
 {
     match rules::match_site(circuit, rules, rule, gate, mask) {
@@ -96,14 +84,7 @@ pub extern "C" fn napspruce_match(
 }
 
 // Gives the mask by which a rule matches at a gate, looked for in at most `limit` ways, or why there is none, and the ways tried.
-#[unsafe(no_mangle)]
-pub extern "C" fn napspruce_find(
-    circuit: &[u32],
-    rules: &[u32],
-    rule: u32,
-    gate: u32,
-    limit: u32,
-) -> u64
+pub fn napspruce_find(circuit: &[u32], rules: &[u32], rule: u32, gate: u32, limit: u32) -> u64
     ensures { result ≡ pack pack_finding (finding circuit.now rules.now rule gate limit) }
 {
     match finder::find_mask(circuit, rules, rule, gate, limit) {
@@ -116,8 +97,7 @@ pub extern "C" fn napspruce_find(
 }
 
 // The trimmed circuit, rewritten at the sites in order. Gives both pairs and the number of sites kept.
-#[unsafe(no_mangle)]
-pub extern "C" fn napspruce_rewrite(
+pub fn napspruce_rewrite(
     circuit: &[u32],
     rules: &[u32],
     sites: &[u32],
@@ -153,8 +133,7 @@ pub extern "C" fn napspruce_rewrite(
 }
 
 // The program of the circuit, trimmed, for a machine with `limit` registers. Gives the need and the number of instructions.
-#[unsafe(no_mangle)]
-pub extern "C" fn napspruce_translate(circuit: &[u32], limit: u32, program: &mut [u32]) -> u64
+pub fn napspruce_translate(circuit: &[u32], limit: u32, program: &mut [u32]) -> u64
     ensures { packed_leaving result program.new ≡ pack_outcome pack_translation (translating circuit.now limit program.old) }
 {
     match translator::translate(circuit, limit, program) {
@@ -164,13 +143,7 @@ pub extern "C" fn napspruce_translate(circuit: &[u32], limit: u32, program: &mut
 }
 
 // The listing of three texts (01, Register program, 16). Gives its length.
-#[unsafe(no_mangle)]
-pub extern "C" fn napspruce_listing(
-    circuit: &[u8],
-    rules: &[u8],
-    sites: &[u8],
-    listing: &mut [u8],
-) -> u64
+pub fn napspruce_listing(circuit: &[u8], rules: &[u8], sites: &[u8], listing: &mut [u8]) -> u64
     ensures { packed_leaving result listing.new ≡ pack_outcome pack_one
         (listing_outcome circuit.now rules.now sites.now listing.old) }
 {

@@ -1,5 +1,5 @@
-// The calls of the crates below and the listing of three texts, for other languages: C functions with the prefix `napspruce_`
-// (include/napspruce.h); and what the program prints.
+// The calls of the crates below and the listing of three texts, for other languages: functions with the prefix `napspruce_`, which crate
+// napspruce_c exports to C (include/napspruce.h); and what the program prints.
 #![tactic(auto)]
 
 pub mod exports;
