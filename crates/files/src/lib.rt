@@ -1,7 +1,9 @@
 // The job of the program `depth_rewriter`, for files of any names.
 #![tactic(auto)]
 
+ghost use Rattle.std.specs.Prelude.{take};
 ghost use Rattle.std.specs.Counts.{IsPrefixLen};
+ghost use Rattle.std.specs.Io.KnownBytes.{Consumes};
 
 use napspruce::listing::MAX_LISTING;
 use napspruce::printing::print_listing;
@@ -12,9 +14,10 @@ use std::{fs, str};
 // As many bytes of a file as count (01, Marked examples, 2).
 const MAX_FILE: usize = 65531;
 
-// Reads until the buffer is full, the file ends or a read fails. The result is how many bytes are then in front.
+// Reads until the buffer is full, the file ends or a read fails. The result is how many bytes are then in front: those that the file had next.
 fn read_full<F: Read>(file: &mut F, buffer: &mut [u8]) -> usize
-    ensures { IsPrefixLen result buffer.new }
+    ensures in_bounds { IsPrefixLen result buffer.new }
+    ensures bytes { Consumes (F.remaining file.old) (F.remaining file.new) (take result buffer.new) }
 {
     let mut done: usize = 0;
     while done < buffer.len() {
