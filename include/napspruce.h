@@ -2,7 +2,7 @@
  *
  * A slice is an aligned pointer and a count of the elements behind it: bytes of a text, numbers of a table. A count of 0 may come with any pointer,
  * NULL too. A lent buffer, which is one that is not const, must overlap no other slice of the same call. Nothing is asked of the contents: each
- * call tests what it relies on, takes no memory but the stack (205 KB for a listing, the largest), and keeps nothing between calls.
+ * call tests what it relies on, takes no memory but the stack (208 KB for a listing, the largest), and keeps nothing between calls.
  *
  * A text is lines of 19 bytes: three numbers from 0 to 999,999, each right-justified in six columns with blanks before it and no leading zero, and
  * byte 10. A table holds the same numbers, three a line. README.md, Files, says what the lines of circuits, rules and sites are.
