@@ -1,175 +1,141 @@
 // The register machine of 01 and 02, to run what `translate` wrote.
-ghost use Rattle.std.specs.Prelude.{◌<◌, ◌≤◌};
-ghost use Rattle.translator.specs.Machine.{max_registers};
-
-use crate::printing::{print_byte, print_number};
-use circuit::checked::{CONSTANTS, START};
+use circuit::checked::{CONSTANTS, Kind, START};
 use std::io;
 use translator::MAX_REGISTERS;
 
 // The largest limit.
 pub const MAX_LIMIT: u32 = MAX_REGISTERS as u32;
 
-// What stands for an empty register, and for the bit of a reference that is neither a constant nor an input.
-const NOTHING: u8 = 2;
+// The opcode of an operation is the kind of its gate.
+pub const AND: u32 = Kind::And as u32;
 
-// The bit of a constant or an input.
-fn start_bit(inputs: &[u8], reference: u32) -> u8 {
-    if reference < CONSTANTS {
-        return reference as u8;
+pub const XOR: u32 = Kind::Xor as u32;
+
+const EMIT: u32 = 3;
+
+pub const LOAD: u32 = 4;
+
+// What a register holds.
+#[derive(Clone, Copy)]
+struct Value {
+    bit: bool,
+    level: u32,
+    is_public: bool,
+}
+
+impl Value {
+    fn xor(self, other: Self) -> Self {
+        Self {
+            bit: self.bit ^ other.bit,
+            level: self.level.max(other.level),
+            is_public: false,
+        }
     }
-    let k = (reference - CONSTANTS) as usize;
-    if inputs.len() <= k {
-        return NOTHING;
+
+    // A public operand spares an AND its level (02, 2026-06).
+    fn and(self, other: Self) -> Self {
+        let level = self.level.max(other.level);
+        Self {
+            bit: self.bit & other.bit,
+            level: if self.is_public | other.is_public {
+                level
+            } else {
+                level.saturating_add(1)
+            },
+            is_public: false,
+        }
     }
-    if inputs[k] == 0 { 0 } else { 1 }
+}
+
+// Why a run ends before its program does: an instruction that the machine has no meaning for, or an output that is lost.
+#[derive(Drop)]
+enum Stop {
+    Fault,
+    Output(io::Error),
+}
+
+impl From<io::Error> for Stop {
+    fn from(error: io::Error) -> Self {
+        Stop::Output(error)
+    }
 }
 
 // The level that a starting line of the circuit gives for a constant or an input, else 0.
 fn start_level(circuit: &[u32], reference: u32) -> u32 {
-    let mut p: usize = 3;
-    while p + 2 < circuit.len() {
-        if circuit[p] != START {
-            return 0;
-        }
-        if circuit[p + 1] == reference {
-            return circuit[p + 2];
-        }
-        p += 3;
+    let (lines, _) = circuit.as_chunks::<3>();
+    lines
+        .iter()
+        .skip(1)
+        .take_while(|[kind, _, _]| *kind == START)
+        .find(|[_, start, _]| *start == reference)
+        .map_or(0, |[_, _, level]| *level)
+}
+
+// A machine with as many registers as the slice has places; an empty one is None.
+#[derive(Drop)]
+struct Machine<'a> {
+    circuit: &'a [u32],
+    inputs: &'a [u8],
+    registers: &'a mut [Option<Value>],
+}
+
+impl Machine<'_> {
+    // What a constant or an input is loaded as.
+    fn start(&self, reference: u32) -> Result<Value, Stop> {
+        let bit = match reference.checked_sub(CONSTANTS) {
+            None => reference == 1,
+            Some(input) => *self.inputs.get(input as usize).ok_or(Stop::Fault)? != 0,
+        };
+        Ok(Value {
+            bit,
+            level: start_level(self.circuit, reference),
+            is_public: reference < CONSTANTS,
+        })
     }
-    0
-}
 
-fn gate_bit(kind: u32, x: u8, y: u8) -> u8 {
-    if kind == 2 { x & y } else { x ^ y }
-}
-
-// A public operand spares an AND its level (02, 2026-06).
-fn gate_level(kind: u32, a: u32, b: u32, reads_public: bool) -> u32 {
-    let level = if a < b { b } else { a };
-    if (kind == 2) & !reads_public {
-        // Levels stay far below 4,096, as no circuit is so deep: the test only spares a proof.
-        if level < 4096 {
-            return level + 1;
+    fn read(&self, register: u32) -> Result<Value, Stop> {
+        match self.registers.get(register as usize) {
+            Some(Some(value)) => Ok(*value),
+            _ => Err(Stop::Fault),
         }
     }
-    level
-}
 
-fn load(
-    bits: &mut [u8; MAX_REGISTERS],
-    levels: &mut [u32; MAX_REGISTERS],
-    public: &mut [bool; MAX_REGISTERS],
-    d: usize,
-    bit: u8,
-    level: u32,
-    mark: bool,
-) -> bool
-    requires { d < max_registers }
-{
-    bits[d] = bit;
-    levels[d] = level;
-    public[d] = mark;
-    bit != NOTHING
-}
-
-fn operate(
-    bits: &mut [u8; MAX_REGISTERS],
-    levels: &mut [u32; MAX_REGISTERS],
-    public: &mut [bool; MAX_REGISTERS],
-    kind: u32,
-    d: usize,
-    a: usize,
-    b: usize,
-) -> bool
-    requires d_lt_max_registers { d < max_registers }
-    requires a_lt_max_registers { a < max_registers }
-    requires b_lt_max_registers { b < max_registers }
-{
-    let x = bits[a];
-    let y = bits[b];
-    let level = gate_level(kind, levels[a], levels[b], public[a] | public[b]);
-    bits[d] = gate_bit(kind, x, y);
-    levels[d] = level;
-    public[d] = false;
-    (x != NOTHING) & (y != NOTHING)
-}
-
-fn emit(
-    rt: &impl Print,
-    bits: &[u8; MAX_REGISTERS],
-    levels: &[u32; MAX_REGISTERS],
-    a: usize,
-) -> io::Result<bool>
-    requires { a < max_registers }
-{
-    print_byte(rt, bits[a])?;
-    print_number(rt, levels[a])?;
-    Ok(bits[a] != NOTHING)
-}
-
-// One instruction. It answers false for a fault.
-fn perform(
-    rt: &impl Print,
-    bits: &mut [u8; MAX_REGISTERS],
-    levels: &mut [u32; MAX_REGISTERS],
-    public: &mut [bool; MAX_REGISTERS],
-    circuit: &[u32],
-    inputs: &[u8],
-    limit: u32,
-    opcode: u32,
-    first: u32,
-    second: u32,
-    third: u32,
-) -> io::Result<bool>
-    requires { limit ≤ max_registers }
-{
-    if limit <= first {
-        return Ok(false);
+    fn write(&mut self, register: u32, value: Value) -> Result<(), Stop> {
+        let place = self
+            .registers
+            .get_mut(register as usize)
+            .ok_or(Stop::Fault)?;
+        *place = Some(value);
+        Ok(())
     }
-    match opcode {
-        3 => {
-            if (second != 0) | (third != 0) {
-                return Ok(false);
-            }
-            emit(rt, bits, levels, first as usize)
+
+    fn emit(&self, rt: &impl Print, register: u32) -> Result<(), Stop> {
+        let Value { bit, level, .. } = self.read(register)?;
+        let bit = u8::from(bit);
+        print!(rt; " {bit} {level}")?;
+        Ok(())
+    }
+
+    fn perform(&mut self, rt: &impl Print, instruction: [u32; 4]) -> Result<(), Stop> {
+        match instruction {
+            [XOR, to, a, b] => self.write(to, self.read(a)?.xor(self.read(b)?)),
+            [AND, to, a, b] => self.write(to, self.read(a)?.and(self.read(b)?)),
+            [EMIT, register, 0, 0] => self.emit(rt, register),
+            [LOAD, to, reference, 0] => self.write(to, self.start(reference)?),
+            _ => Err(Stop::Fault),
         }
-        4 => {
-            if third != 0 {
-                return Ok(false);
-            }
-            Ok(load(
-                bits,
-                levels,
-                public,
-                first as usize,
-                start_bit(inputs, second),
-                start_level(circuit, second),
-                second < CONSTANTS,
-            ))
+    }
+
+    fn run(&mut self, rt: &impl Print, program: &[u32]) -> Result<(), Stop> {
+        let (instructions, _) = program.as_chunks::<4>();
+        for instruction in instructions {
+            self.perform(rt, *instruction)?;
         }
-        1..=2 => {
-            if limit <= second {
-                return Ok(false);
-            }
-            if limit <= third {
-                return Ok(false);
-            }
-            Ok(operate(
-                bits,
-                levels,
-                public,
-                opcode,
-                first as usize,
-                second as usize,
-                third as usize,
-            ))
-        }
-        _ => Ok(false),
+        Ok(())
     }
 }
 
-// Runs a program of the circuit, and prints a bit and a level an emit.
+// Runs a program of the circuit on a machine with `limit` registers, and prints a bit and a level an emit.
 pub fn print_run(
     rt: &impl Print,
     circuit: &[u32],
@@ -177,32 +143,18 @@ pub fn print_run(
     limit: u32,
     inputs: &[u8],
 ) -> io::Result<()> {
-    if MAX_LIMIT < limit {
+    let mut registers = [None; MAX_REGISTERS];
+    let Some(registers) = registers.get_mut(..limit as usize) else {
         return Ok(());
+    };
+    let mut machine = Machine {
+        circuit,
+        inputs,
+        registers,
+    };
+    match machine.run(rt, program) {
+        Ok(()) => Ok(()),
+        Err(Stop::Fault) => print!(rt; " fault"),
+        Err(Stop::Output(error)) => Err(error),
     }
-    let mut bits = [NOTHING; MAX_REGISTERS];
-    let mut levels = [0u32; MAX_REGISTERS];
-    let mut public = [false; MAX_REGISTERS];
-    let count = program.len() / 4;
-    let mut i: usize = 0;
-    while i < count {
-        let p = 4 * i;
-        if !perform(
-            rt,
-            &mut bits,
-            &mut levels,
-            &mut public,
-            circuit,
-            inputs,
-            limit,
-            program[p],
-            program[p + 1],
-            program[p + 2],
-            program[p + 3],
-        )? {
-            return print!(rt; " fault");
-        }
-        i += 1;
-    }
-    Ok(())
 }

@@ -3,7 +3,7 @@ use mathlib.Core.Path.{◌≡◌, sym, ap, ap₂, ◌∙◌}
 use mathlib.Core.List.{List, [], ◌∷◌, ◌++◌}
 use Prim.Native.Nat.{ℕ, suc, ◌+◌, ◌-◌, ◌≤◌}
 use native.Mathlib.Omega.{arith}
-use lib.ListN.{length, take, drop, length-append, length-drop, take-append-drop}
+use lib.ListN.{length, take, drop, get_or, set, length-append, length-drop, take-append-drop}
 use lib.Seq.{sets, drop-drop, drop-append-add, take_at, drop_at, length-take-le}
 use Rattle.lists.proofs.Stores.{sets_behind}
 use Rattle.lists.proofs.Written.{Written, written_all}
@@ -38,17 +38,21 @@ over-behind front vs old n e room d d' f g =
     g ∙ ap (λ x. sets x n vs) f ∙ sets_behind front vs (drop (length front) old) n e (omega (arith, length-drop (length front) old))
     ∙ ap (λ x. front ++ vs ++ x) (drop-drop (length vs) (length front) old ∙ ap (λ k. drop k old) (sym (length-append front vs)))
 
--- A table that begins as another does: the lines of table t up to place `from`, then what is put behind them, and last a head of its own over
--- the first line.
-pub copied-headed : (t old : List ℕ) (from m : ℕ) → from ≡ 3 + m → from ≤ length t → (vs : List ℕ) → from + length vs ≤ length old
-    → (d d' d'' : List ℕ) (a b c : ℕ) → d ≡ over (take from t) old → d' ≡ sets d from vs → d'' ≡ sets d' 0 (a ∷ b ∷ c ∷ [])
-    → d'' ≡ over (a ∷ b ∷ c ∷ (take m (drop 3 t) ++ vs)) old
-copied-headed [] old from m e fits vs room d d' d'' a b c f g h = let z : ⊥ = omega arith in absurd z
-copied-headed (x ∷ []) old from m e fits vs room d d' d'' a b c f g h = let z : ⊥ = omega arith in absurd z
-copied-headed (x ∷ y ∷ []) old from m e fits vs room d d' d'' a b c f g h = let z : ⊥ = omega arith in absurd z
-copied-headed (x ∷ y ∷ z ∷ t) old from m e fits vs room d d' d'' a b c f g h =
+-- the lines of a table up to place `from`, then what is put behind them
+copied-body : (x y z : ℕ) (t old : List ℕ) (from m : ℕ) → from ≡ 3 + m → from ≤ length (x ∷ y ∷ z ∷ t) → (vs : List ℕ) → from + length vs ≤ length old
+    → (d d' : List ℕ) → d ≡ over (take from (x ∷ y ∷ z ∷ t)) old → d' ≡ sets d from vs → d' ≡ over (x ∷ y ∷ z ∷ (take m t ++ vs)) old
+copied-body x y z t old from m e fits vs room d d' f g =
     let s : from ≡ suc (suc (suc m)) = omega arith in
-    let body : d' ≡ over (x ∷ y ∷ z ∷ (take m t ++ vs)) old =
     over-behind (take from (x ∷ y ∷ z ∷ t)) vs old from (length-take-le from (x ∷ y ∷ z ∷ t) fits) room d d' f g
-    ∙ ap (λ k. over (take k (x ∷ y ∷ z ∷ t) ++ vs) old) s in
-    h ∙ ap (λ d. sets d 0 (a ∷ b ∷ c ∷ [])) body
+    ∙ ap (λ k. over (take k (x ∷ y ∷ z ∷ t) ++ vs) old) s
+
+-- A table that begins as another does: the lines of table t up to place `from`, then what is put behind them, and last a number of gates of its
+-- own, the second of the first line.
+pub copied-counted : (t old : List ℕ) (from m : ℕ) → from ≡ 3 + m → from ≤ length t → (vs : List ℕ) → from + length vs ≤ length old
+    → (d d' d'' : List ℕ) (n : ℕ) → d ≡ over (take from t) old → d' ≡ sets d from vs → d'' ≡ set d' 1 n
+    → d'' ≡ over (get_or t 0 0 ∷ n ∷ get_or t 2 0 ∷ (take m (drop 3 t) ++ vs)) old
+copied-counted [] old from m e fits vs room d d' d'' n f g h = let z : ⊥ = omega arith in absurd z
+copied-counted (x ∷ []) old from m e fits vs room d d' d'' n f g h = let z : ⊥ = omega arith in absurd z
+copied-counted (x ∷ y ∷ []) old from m e fits vs room d d' d'' n f g h = let z : ⊥ = omega arith in absurd z
+copied-counted (x ∷ y ∷ z ∷ t) old from m e fits vs room d d' d'' n f g h =
+    h ∙ ap (λ d. set d 1 n) (copied-body x y z t old from m e fits vs room d d' f g)

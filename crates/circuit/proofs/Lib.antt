@@ -2,6 +2,7 @@ pub mod TableLaws
 pub mod EachLaws
 pub mod GateLaws
 pub mod RefusalLaws
+pub mod KindLaws
 pub mod StartRunLaws
 pub mod EncodingLaws
 pub mod FoldLaws

@@ -14,7 +14,7 @@ use Rattle.lines.specs.Text.{is_partial}
 use Rattle.lines.proofs.CallLaws.{whole_is}
 use Rattle.circuit.specs.Circuit.{xor_kind, and_kind, max_inputs, max_gates, max_outputs, first_gate, no_gate}
 use Rattle.circuit.specs.Table.{inputs, gates, outputs, refs, closings_from, table_end, gate_lines, closing_lines, decode}
-use Rattle.circuit.specs.Refusal.{head_in_limits, lines_as_head_says, starts_ok, gate_kinds_ok, closing_kinds_ok, operands_below, reference_below, operands_ok, closing_references_ok, refusal}
+use Rattle.circuit.specs.Refusal.{head_in_limits, lines_as_head_says, starts_ok, gate_kinds_ok, closing_kinds_ok, has_gate_kind, operands_below, reference_below, operands_ok, closing_references_ok, refusal}
 use Rattle.circuit.specs.WellFormed.{Sized, WellFormed}
 use Rattle.circuit.specs.Theorems.{AcceptedIsWellFormed}
 use Rattle.circuit.proofs.TableLaws.{closing-step, output-at, gate-next}
@@ -95,10 +95,6 @@ module _ (t : List ℕ) where
 
   -- ---- the refusal, test by test
 
-  pub refusal-partial : is_partial 3 t ≡ true → 1 ≡ refusal t
-  unfolding refusal
-  refusal-partial e = rw e
-
   module _ (w : is_partial 3 t ≡ false) where
     -- there is a head to look at
     pub head-there : 3 ≤ length t
@@ -118,20 +114,6 @@ module _ (t : List ℕ) where
         unfolding refusal
         refusal-starts e = rw (w, h, l, e)
 
-        module _ (s : starts_ok t ≡ true) where
-          pub refusal-kinds : gate_kinds_ok t && closing_kinds_ok t ≡ false → 6 ≡ refusal t
-          unfolding refusal
-          refusal-kinds e = rw (w, h, l, s, e)
-
-          module _ (k : gate_kinds_ok t && closing_kinds_ok t ≡ true) where
-            pub refusal-references : operands_ok t && closing_references_ok t ≡ false → 7 ≡ refusal t
-            unfolding refusal
-            refusal-references e = rw (w, h, l, s, k, e)
-
-            pub refusal-none : operands_ok t && closing_references_ok t ≡ true → 0 ≡ refusal t
-            unfolding refusal
-            refusal-none e = rw (w, h, l, s, k, e)
-
   -- ---- each gate and output of the circuit, wherever its line stands
 
   module _ (w : WellFormed t) (i : ℕ) where
@@ -143,6 +125,9 @@ module _ (t : List ℕ) where
 
     pub right-below : i < gates t → (get_or (decode t).gates i no_gate).right < first_gate (inputs t) + i
     right-below h = ltb-true _ _ (right_of (ltb (get_or (decode t).gates i no_gate).left (first_gate (inputs t) + i)) _ (operand h))
+
+    pub kind-known : i < gates t → has_gate_kind (first_gate (inputs t) + i) (get_or (decode t).gates i no_gate) ≡ true
+    kind-known h = all-at has_gate_kind (first_gate (inputs t)) (gate_lines t) i _ w.gate-kinds (gate-next t i h)
 
     pub output-below : i < outputs t → get_or (decode t).outputs i 0 < refs t
     output-below h =

@@ -14,14 +14,12 @@ use Rattle.lists.proofs.Appended.{Appended, appended-none, appended-more, append
 use Rattle.lines.specs.Calls.{over}
 use Rattle.circuit.specs.Circuit.{Gate, closing_kind, first_gate, no_gate}
 use Rattle.circuit.specs.Table.{inputs, gates, outputs, refs, starts, gates_from, table_end, gate_lines, closing_line, decode, encode_lines}
-use Rattle.circuit.specs.WellFormed.{WellFormed}
 use Rattle.circuit.specs.ReverseDepth.{reverse_depths}
 use Rattle.circuit.specs.Trim.{rank, keep_gates, is_kept, new_number, renumbered_gate, trimmed_gates, trimmed_outputs, trim_of}
 use Rattle.circuit.proofs.TableLaws.{gate-next, gates-length, output-next, outputs-length}
-use Rattle.circuit.proofs.RefusalLaws.{left_below, right-below, output-below}
 use Rattle.circuit.proofs.StartRunLaws.{run_fits}
 use Rattle.circuit.proofs.EncodingLaws.{encode-length}
-use Rattle.circuit.proofs.BufferLaws.{copied-headed}
+use Rattle.circuit.proofs.BufferLaws.{copied-counted}
 use Rattle.circuit.proofs.RankLaws.{rank-kept, rank-gone, rank-id, keep-length}
 use Rattle.circuit.proofs.ReverseDepthLaws.{kept_low}
 use Rattle.circuit.proofs.LoopLaws.{kept_read, trim-lines, append-kept, append-gone, append-gates-end, append-closing, append-closings-end}
@@ -49,14 +47,13 @@ input-name t v h = sym (rank-id (is_kept (decode t)) v (λ r l. kept_low (decode
 -- ---- lines stored one after the other
 
 -- gate i's line with the new numbers of its operands
-pub gate-stores : (t names d d' : List ℕ) (at i : ℕ) → WellFormed t → i < gates t → Named t names (first_gate (inputs t) + i)
-    → (g : Gate) → g ≡ get_or (decode t).gates i no_gate → d' ≡ sets d at (g.kind ∷ get_or names g.left 0 ∷ get_or names g.right 0 ∷ [])
+pub gate-stores : (t names d d' : List ℕ) (at i : ℕ) → Named t names (first_gate (inputs t) + i)
+    → (g : Gate) → (g.left < first_gate (inputs t) + i) × (g.right < first_gate (inputs t) + i) → g ≡ get_or (decode t).gates i no_gate → d' ≡ sets d at (g.kind ∷ get_or names g.left 0 ∷ get_or names g.right 0 ∷ [])
     → d' ≡ sets d at (encode_lines (renumbered_gate (decode t) i ∷ []))
 unfolding encode_lines
-gate-stores t names d d' at i w h r g q e =
-    let x = get_or (decode t).gates i no_gate in
-    e ∙ ap (λ y. sets d at (y.kind ∷ get_or names y.left 0 ∷ get_or names y.right 0 ∷ [])) q
-    ∙ ap₂ (λ a b. sets d at (x.kind ∷ a ∷ b ∷ [])) (r x.left (left_below t w i h)) (r x.right (right-below t w i h))
+gate-stores t names d d' at i r g l q e =
+    e ∙ ap₂ (λ a b. sets d at (g.kind ∷ a ∷ b ∷ [])) (r g.left l.0) (r g.right l.1)
+    ∙ ap (λ y. sets d at (y.kind ∷ new_number (decode t) y.left ∷ new_number (decode t) y.right ∷ [])) q
 
 -- ---- the gate lines, up to gate i
 
@@ -100,9 +97,6 @@ module _ (t names₀ d₀ : List ℕ) where
           let q : first_gate (inputs t) + i + 1 ≡ first_gate (inputs t) + (i + 1) = omega arith in
           rw (n, ← q) (named_more t names (first_gate (inputs t) + i) x s.named (omega (arith, s.names-long)) (p ∙ s.follows))
 
-      pub gates-named : Named t (set names v x) (first_gate (inputs t) + i)
-      gates-named v l = renamed v (omega arith)
-
       pub gates-kept : 0 < get_or u v 0 → (from : ℕ) → from ≡ gates_from t
           → (d' : List ℕ) → d' ≡ sets d (from + 3 * kept) (encode_lines (renumbered_gate (decode t) i ∷ [])) → GatesTo t names₀ (set names v x) d₀ d' (kept + 1) (i + 1)
       unfolding encode_lines
@@ -137,22 +131,18 @@ ClosingsTo t d₀ d from i =
     (encode_lines (map closing_line (map (rank (is_kept (decode t))) (drop i (decode t).outputs)))) d (from + 3 * i)
 
 module _ (t d₀ : List ℕ) (from : ℕ) where
-  pub closings-none : ClosingsTo t d₀ d₀ from 0
-  closings-none = appended-none _ d₀ from _ (from + 3 * 0) refl (omega arith)
-
   module _ (d : List ℕ) (i : ℕ) (s : ClosingsTo t d₀ d from i) where
     pub closings-all : outputs t ≤ i → d ≡ sets d₀ from (encode_lines (map closing_line (trimmed_outputs (decode t))))
     closings-all h =
         (appended-all _ d₀ from _ d (from + 3 * i) s (append-closings-end (rank (is_kept (decode t))) (decode t).outputs i (omega (arith, outputs-length t)))).0
 
-    pub closings-more : WellFormed t → i < outputs t → (names : List ℕ) → Named t names (refs t) → (o : ℕ) → o ≡ get_or (decode t).outputs i 0
+    pub closings-more : i < outputs t → (names : List ℕ) → Named t names (refs t) → (o : ℕ) → o ≡ get_or (decode t).outputs i 0 → o < refs t
         → (d' : List ℕ) → d' ≡ sets d (from + 3 * i) (closing_kind ∷ get_or names o 0 ∷ 0 ∷ []) → ClosingsTo t d₀ d' from (i + 1)
-    closings-more w h names n o p d' f =
+    closings-more h names n o p b d' f =
         let kept = is_kept (decode t) in
-        let a = n o (omega (arith, output-below t w i h)) in
         appended-more _ d₀ from _ d (from + 3 * i) s (closing_kind ∷ rank kept o ∷ 0 ∷ []) _ d' (from + 3 * (i + 1))
         (append-closing (rank kept) (decode t).outputs i o (output-next t i h ∙ ap (λ x. x ∷ drop (i + 1) (decode t).outputs) (sym p)))
-        (f ∙ ap (λ x. sets d (from + 3 * i) (closing_kind ∷ x ∷ 0 ∷ [])) a) (omega arith)
+        (f ∙ ap (λ x. sets d (from + 3 * i) (closing_kind ∷ x ∷ 0 ∷ [])) (n o b)) (omega arith)
 
 -- ---- the whole table
 
@@ -183,12 +173,12 @@ module _ (t : List ℕ) (from kept : ℕ) (q : from ≡ gates_from t) (k : kept 
         outputs-length t,
       )
 
-  pub trim-stores : WellFormed t → (d d1 d2 d3 d4 : List ℕ) → table_end t ≤ length d
+  pub trim-stores : from ≤ length t → (d d1 d2 d3 d4 : List ℕ) → table_end t ≤ length d
       → d1 ≡ over (take from t) d
       → d2 ≡ sets d1 (gates_from t) (encode_lines (trimmed_gates (decode t)))
       → d3 ≡ sets d2 (from + 3 * kept) (encode_lines (map closing_line (trimmed_outputs (decode t))))
-      → d4 ≡ sets d3 0 (inputs t ∷ kept ∷ outputs t ∷ []) → d4 ≡ over (trim_of t) d
-  trim-stores w d d1 d2 d3 d4 h e1 e2 e3 e4 =
+      → d4 ≡ set d3 1 kept → d4 ≡ over (trim_of t) d
+  trim-stores fits d d1 d2 d3 d4 h e1 e2 e3 e4 =
       let gs = encode_lines (trimmed_gates (decode t)) in
       let os = encode_lines (map closing_line (trimmed_outputs (decode t))) in
       let long : length gs ≡ 3 * kept = omega (arith, encode-length (trimmed_gates (decode t))) in
@@ -196,6 +186,6 @@ module _ (t : List ℕ) (from kept : ℕ) (q : from ≡ gates_from t) (k : kept 
       e3 ∙ ap (λ x. sets x (from + 3 * kept) os) (e2 ∙ ap (λ m. sets d1 m gs) (sym q)) ∙ sets-append gs os d1 from (3 * kept) long in
       let lines : length (trim_of t) ≡ 3 + 3 * starts t + length (gs ++ os) =
       omega (arith, ap length (trim-lines t), length-append (take (3 * starts t) (drop 3 t)) (gs ++ os), starts-taken t) in
-      copied-headed t d from (3 * starts t) q (omega (arith, w.sized.long)) (gs ++ os)
-      (omega (arith, lines, trim_end, closings-room (table_end t) (omega arith))) d1 d3 d4 (inputs t) kept (outputs t) e1 both e4
+      copied-counted t d from (3 * starts t) q fits (gs ++ os)
+      (omega (arith, lines, trim_end, closings-room (table_end t) (omega arith))) d1 d3 d4 kept e1 both e4
       ∙ ap (λ n. over (inputs t ∷ n ∷ outputs t ∷ (take (3 * starts t) (drop 3 t) ++ (gs ++ os))) d) k ∙ ap (λ l. over l d) (sym (trim-lines t))

@@ -1,16 +1,25 @@
 -- 01, Circuits, 1 to 4, and 02, 2026-01: circuits, apart from the tables that they are written in.
 use Rattle.std.specs.Prelude.{ℕ, ◌+◌, ◌*◌, ◌-◌, Bool, List, ltb, length, get_or}
 use Rattle.circuit.specs.declared.table.Gate.{Gate as DeclaredGate}
+use Rattle.circuit.specs.declared.table.Start.{Start as DeclaredStart}
+use Rattle.circuit.specs.declared.table.Kind.{Kind}
+use Rattle.circuit.specs.declared.table.Kind.TheVariants.{Xor, And}
 
--- 01, Circuits, 2: a gate is its kind and its two operands, as the code's struct has them. Closing lines, whose reference stands in `left`,
--- and the lines of tables of other crates are read as the same record.
-abbrev pub Gate : Type 0
-Gate = DeclaredGate
+-- 01, Circuits, 2: a gate is its kind and its two operands. Closing lines, whose reference stands in `left`, and the lines of tables of other
+-- crates are read as the same record.
+pub record Gate : Type 0 where
+  pub kind : ℕ
+  pub left : ℕ
+  pub right : ℕ
 
 -- 02, 2026-01: what a starting line says, an input's reference and the level that it starts at
 pub record Start : Type 0 where
   pub input : ℕ
   pub level : ℕ
+
+-- the same of the code's struct
+abbrev pub said_by : DeclaredStart → Start
+said_by s = record { input = s.input; level = s.level }
 
 -- the starting lines as they are written, of which one names each input that does not start at level 0; the gates in line order, and the
 -- outputs' references in the order of the closing lines
@@ -32,6 +41,14 @@ closing_kind = 3
 
 abbrev pub start_kind : ℕ
 start_kind = 4
+
+-- the code's kinds by their numbers, and its gates, which have no other kind
+abbrev pub kind_number : Kind → ℕ
+kind_number Xor = xor_kind
+kind_number And = and_kind
+
+abbrev pub gate_of : DeclaredGate → Gate
+gate_of g = record { kind = kind_number g.kind; left = g.left; right = g.right }
 
 -- 01, Circuits, 1: the limits of the head's numbers
 abbrev pub max_inputs : ℕ

@@ -1,21 +1,18 @@
 -- The call `evaluate`: what it gives back, and what the lent output bytes then hold, for every input.
-use Rattle.std.specs.Prelude.{ℕ, not, List, [], ◌∷◌, eqb, ltb, length}
+use Rattle.std.specs.Prelude.{ℕ, not, List, [], ◌∷◌, eqb, ltb, length, Result as Returned}
 use Rattle.lines.specs.Text.{is_partial}
-use Rattle.lines.specs.declared.Refusal.{Refusal}
-use Rattle.lines.specs.Refusal.{Result, refused, gives, no_table, Outcome}
+use Rattle.lines.specs.declared.refusing.Refusal.{Refusal as GivenRefusal}
+use Rattle.lines.specs.Refusal.{Refusal, Result, no_table, answer_of, Outcome}
 use Rattle.lines.specs.Checks.{found, check, answering, afterwards}
 use Rattle.lines.specs.Calls.{over}
-use Rattle.circuit.specs.declared.Evaluated.{Evaluated}
-use Rattle.circuit.specs.declared.Evaluated.TheVariants.{Outputs, Refused}
 use Rattle.circuit.specs.Circuit.{max_outputs}
 use Rattle.circuit.specs.Table.{inputs, outputs, decode}
 use Rattle.circuit.specs.Refusal.{refusal, circuit_table}
 use Rattle.circuit.specs.Evaluation.{evaluate}
 
 -- the answer: a success gives the number of outputs
-abbrev pub paper_values : Evaluated → Result
-paper_values (Outputs n) = gives (n ∷ [])
-paper_values (Refused r) = refused r.number r.table
+abbrev pub paper_values : Returned ℕ GivenRefusal → Result
+paper_values = answer_of (λ n. n ∷ [])
 
 -- 01, Refusals, 2, and 02, 2026-01: 1 for the table; 2, for fewer than 256 output bytes, whatever the head says; 4, 5, 11, 6, 7; and last 1 again,
 -- for input bytes that are not as many as the inputs, where the fault lies in no table.

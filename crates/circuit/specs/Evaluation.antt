@@ -2,12 +2,19 @@
 use Rattle.std.specs.Prelude.{ℕ, List, ◌∷◌, map, eqb, take}
 use Rattle.std.specs.Int.Bits.{bit_and, bit_xor}
 use Rattle.lists.specs.First.{first}
+use Rattle.circuit.specs.declared.table.Kind.{Kind}
+use Rattle.circuit.specs.declared.table.Kind.TheVariants.{Xor, And}
 use Rattle.circuit.specs.Circuit.{Circuit, and_kind, first_gate}
 use Rattle.circuit.specs.Fold.{fold_gates, at_outputs}
 
 -- AND, or else XOR, as other kinds are refused; bit by bit, so that words of many bits are computed by it as well
 unfoldable pub bit_op : (kind a b : ℕ) → ℕ
 bit_op kind a b = first (eqb kind and_kind) (bit_and a b) (bit_xor a b)
+
+-- what a gate of a kind makes of two values of any type, where `Xored` and `Anded` say what that type's operations give
+abbrev pub Applied : {A : Type 0} → (Xored Anded : A → A → A → Type 0) → Kind → (a b result : A) → Type 0
+Applied Xored Anded Xor a b result = Xored a b result
+Applied Xored Anded And a b result = Anded a b result
 
 -- an input's bit: 0 for the byte 0, and 1 for any other
 abbrev pub bit_of : (byte : ℕ) → ℕ

@@ -1,4 +1,5 @@
 pub mod Circuit
+pub mod KindCode
 pub mod Table
 pub mod Each
 pub mod Refusal

@@ -1,18 +1,20 @@
 // The refusal of a circuit's table, and its tests in the order of the refusals 4, 5, 11, 6 and 7; 6 and 7 in one walk. Each test is true if
 // the refusal does not apply.
-ghost use Rattle.std.specs.Prelude.{◌≡◌, ◌&&◌, suc, ◌+◌, ◌*◌, ◌≤◌, length, drop};
+ghost use Rattle.std.specs.Prelude.{◌≡◌, IfOk, [], ◌∷◌, ◌&&◌, suc, ◌+◌, ◌*◌, ◌≤◌, length, drop};
+ghost use Rattle.lines.specs.Refusal.{found_by};
+ghost use Rattle.lines.specs.Checks.{found, first_found};
 ghost use Rattle.circuit.specs.Circuit.{max_inputs, max_gates, max_outputs, max_references};
 ghost use Rattle.circuit.specs.Each.{all_gates};
-ghost use Rattle.circuit.specs.Refusal.{head_in_limits, lines_as_head_says, is_start, starts_ok, gate_kinds_ok, closing_kinds_ok, operands_ok, closing_references_ok, refusal};
+ghost use Rattle.circuit.specs.Refusal.{head_in_limits, lines_as_head_says, is_start, starts_ok, gate_kinds_ok, closing_kinds_ok, operands_ok, closing_references_ok, circuit_table, refusal};
 ghost use Rattle.circuit.specs.Refusal.{has_gate_kind, operands_below, is_closing, reference_below};
 ghost use Rattle.circuit.specs.Table.{inputs, gates, outputs, start_run, gates_from, line_at, lines_of};
 ghost use Rattle.circuit.specs.WellFormed.{Sized};
 
 use crate::table::{
-    AND, CLOSING, CONSTANTS, MAX_GATES, MAX_INPUTS, MAX_LEVEL, MAX_OUTPUTS, MIN_LEVEL, START, XOR,
-    closings_from, first_gate, gates_from,
+    CLOSING, CONSTANTS, Circuit, Kind, MAX_GATES, MAX_INPUTS, MAX_LEVEL, MAX_OUTPUTS, MIN_LEVEL,
+    START, closings_from, first_gate, gates_from,
 };
-use lines::is_partial;
+use lines::{Reason, Refusal, Table, is_partial, refuse_if};
 
 // Refusal 4.
 fn head_in_limits(t: &[u32]) -> bool
@@ -25,7 +27,8 @@ fn head_in_limits(t: &[u32]) -> bool
     (inputs <= MAX_INPUTS) & ((gates <= MAX_GATES) & ((1 <= outputs) & (outputs <= MAX_OUTPUTS)))
 }
 
-// What a walk of the starting lines finds: where they end, and whether they are right, which is refusal 11.
+// What a walk of the starting lines finds: where they end, and whether they are right, which is refusal 11. Both are told of right lines and of
+// wrong ones, as refusal 5 is tested between them, so that no Option or Result is meant.
 #[derive(Clone, Copy)]
 struct StartRun {
     end: usize,
@@ -45,7 +48,8 @@ fn is_start(before: u32, top: u32, input: u32, level: u32) -> bool
     (MIN_LEVEL <= level) & (level <= MAX_LEVEL)
 }
 
-// Where the starting lines end, of which those from number p on are left.
+// Where the starting lines end, of which those from number p on are left. A `while`, as the place is what is asked for: a chain over the
+// lines would count them and multiply.
 fn run_end(t: &[u32], p: usize) -> usize
     requires { p ≤ length t.now + 3 }
     ensures { result ≡ p + 3 * start_run (drop p t.now) }
@@ -60,7 +64,7 @@ fn run_end(t: &[u32], p: usize) -> usize
     q
 }
 
-// The lines right after the head that begin with 4, whatever else is in them.
+// The lines right after the head that begin with 4, whatever else is in them. A `while`, as in `run_end`: the place goes out of it.
 fn walk_starts(t: &[u32]) -> StartRun
     requires in_bounds { 3 ≤ length t.now }
     requires t_bound { inputs t.now ≤ max_inputs }
@@ -123,7 +127,7 @@ pub fn test_gate(t: &[u32], p: usize, own: u32, earlier: Tested) -> Tested
     let left = t[p + 1];
     let right = t[p + 2];
     Tested {
-        kinds: earlier.kinds & ((kind == XOR) | (kind == AND)),
+        kinds: earlier.kinds & Kind::try_from(kind).is_ok(),
         references: earlier.references & ((left < own) & (right < own)),
     }
 }
@@ -157,7 +161,7 @@ pub fn test_closing(t: &[u32], p: usize, top: u32, earlier: Tested) -> Tested
     }
 }
 
-// What n closing lines, from number q on, leave of `earlier`.
+// What n closing lines, from number q on, leave of `earlier`. A place in the table, which `test_closing` asks for.
 fn test_closings(t: &[u32], q: usize, n: usize, top: u32, earlier: Tested) -> Tested
     requires { q + 3 * n ≤ length t.now }
     ensures kinds_value { result.kinds ≡ (earlier.kinds && all_gates is_closing 0 (lines_of n (drop q t.now))) }
@@ -187,29 +191,30 @@ fn test_lines(t: &[u32]) -> Tested
     test_closings(t, closings_from(t), outputs, first + gates, gates_tested)
 }
 
-// The number of the first refusal that applies to the table, or 0.
-pub fn refusal(t: &[u32]) -> u32
-    ensures { result ≡ refusal t.now }
+// The checks of a circuit's table.
+fn check_circuit(t: &[u32]) -> Result<(), Refusal>
+    ensures { found_by result ≡ first_found (found (refusal t.now) circuit_table ∷ []) }
 {
-    if is_partial(t) {
-        return 1;
-    }
-    if !head_in_limits(t) {
-        return 4;
-    }
+    let table = Some(Table::Circuit);
+    refuse_if(is_partial(t), Reason::WrongLength, table)?;
+    refuse_if(!head_in_limits(t), Reason::HeadOutOfLimits, table)?;
     let starts = walk_starts(t);
-    if !lines_as_head_says(t, starts.end) {
-        return 5;
-    }
-    if !starts.right {
-        return 11;
-    }
+    refuse_if(
+        !lines_as_head_says(t, starts.end),
+        Reason::LinesNotAsHeadSays,
+        table,
+    )?;
+    refuse_if(!starts.right, Reason::WrongStart, table)?;
     let tested = test_lines(t);
-    if !tested.kinds {
-        return 6;
-    }
-    if !tested.references {
-        return 7;
-    }
-    0
+    refuse_if(!tested.kinds, Reason::UnknownKind, table)?;
+    refuse_if(!tested.references, Reason::ReferenceOutOfRange, table)
+}
+
+// The circuit that a table says, if no refusal applies.
+pub fn accept(table: &[u32]) -> Result<Circuit<'_>, Refusal>
+    ensures refusal { found_by result ≡ first_found (found (refusal table.now) circuit_table ∷ []) }
+    ensures accepted { IfOk result (λ c. c ≡ table.now) }
+{
+    check_circuit(table)?;
+    Ok(Circuit::of(table))
 }

@@ -6,8 +6,5 @@ pub fn copy_over(from: &[u32], to: &mut [u32])
     requires { length from.now ≤ length to.old }
     ensures { to.new ≡ over from.now to.old }
 {
-    let n = from.len();
-    for i in 0..n {
-        to[i] = from[i];
-    }
+    to[..from.len()].copy_from_slice(from);
 }

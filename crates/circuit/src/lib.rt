@@ -1,8 +1,8 @@
 // Circuits of AND and XOR gates as tables of three numbers a line (01, Circuits; Depth and critical count).
 #![tactic(auto)]
 
-ghost use Rattle.std.specs.Prelude.{◌≡◌};
-ghost use Rattle.lines.specs.Refusal.{leaving};
+ghost use Rattle.std.specs.Prelude.{◌≡◌, IfOk};
+ghost use Rattle.lines.specs.Refusal.{found_by, leaving};
 ghost use Rattle.lines.specs.Checks.{first_found};
 ghost use Rattle.circuit.specs.EvaluateCall.{evaluate_checks, evaluating, paper_values as evaluated_values};
 ghost use Rattle.circuit.specs.MeasureCall.{measuring, paper_values as measured_values};
@@ -17,70 +17,49 @@ mod reverse_depth;
 mod table;
 mod trimming;
 
+use checking::accept;
+pub use critical::DepthPair;
+use critical::pair;
 use evaluating::evaluate_into;
-use lines::{NO_TABLE, Refusal, is_partial, refuse};
-use table::MAX_OUTPUTS;
+use lines::{Reason, Refusal, Table, is_partial, refuse_if};
+use table::{Circuit, MAX_OUTPUTS};
 
-// 01's number of the circuit's table, for the refusals that lie in it.
-pub const CIRCUIT_TABLE: u32 = 1;
-
-// The number of outputs that were given, or the refusal.
-#[derive(Clone, Copy)]
-pub enum Evaluated {
-    Outputs(u32),
-    Refused(Refusal),
-}
-
-// 01's pair (D, N), the depth and the critical count, or the refusal.
-#[derive(Clone, Copy)]
-pub enum Measured {
-    Pair { depth: u32, critical: u32 },
-    Refused(Refusal),
-}
-
-// The refusal of a call of `evaluate`, if there is one.
-fn evaluate_refusal(circuit: &[u32], inputs: &[u8], outputs: &[u8]) -> Refusal
-    ensures { result ≡ first_found (evaluate_checks circuit.now inputs.now outputs.now) }
+// The circuit of a call of `evaluate`, if no refusal applies.
+fn accept_evaluate<'a>(
+    circuit: &'a [u32],
+    inputs: &[u8],
+    outputs: &[u8],
+) -> Result<Circuit<'a>, Refusal>
+    ensures refusal { found_by result ≡ first_found (evaluate_checks circuit.now inputs.now outputs.now) }
+    ensures accepted { IfOk result (λ c. c ≡ circuit.now) }
 {
-    if is_partial(circuit) {
-        return refuse(1, CIRCUIT_TABLE);
-    }
-    if outputs.len() < MAX_OUTPUTS as usize {
-        return refuse(2, NO_TABLE);
-    }
-    let number = checked::refusal(circuit);
-    if number != 0 {
-        return refuse(number, CIRCUIT_TABLE);
-    }
-    if inputs.len() != circuit[0] as usize {
-        return refuse(1, NO_TABLE);
-    }
-    refuse(0, NO_TABLE)
+    refuse_if(
+        is_partial(circuit),
+        Reason::WrongLength,
+        Some(Table::Circuit),
+    )?;
+    refuse_if(
+        outputs.len() < MAX_OUTPUTS as usize,
+        Reason::BufferTooShort,
+        None,
+    )?;
+    let accepted = accept(circuit)?;
+    refuse_if(inputs.len() != accepted.inputs(), Reason::WrongLength, None)?;
+    Ok(accepted)
 }
 
-// The bits that the circuit gives for the input bytes, one byte an output.
-pub fn evaluate(circuit: &[u32], inputs: &[u8], outputs: &mut [u8]) -> Evaluated
+// The bits that the circuit gives for the input bytes, one byte an output; and how many outputs there are.
+pub fn evaluate(circuit: &[u32], inputs: &[u8], outputs: &mut [u8]) -> Result<u32, Refusal>
     ensures { leaving (evaluated_values result) outputs.new ≡ evaluating circuit.now inputs.now outputs.old }
 {
-    let refusal = evaluate_refusal(circuit, inputs, outputs);
-    if refusal.number != 0 {
-        return Evaluated::Refused(refusal);
-    }
-    evaluate_into(circuit, inputs, outputs);
-    Evaluated::Outputs(circuit[2])
+    let circuit = accept_evaluate(circuit, inputs, outputs)?;
+    evaluate_into(&circuit, inputs, outputs);
+    Ok(circuit.outputs() as u32)
 }
 
 // The depth and the critical count of the circuit as it stands; dead gates count nowhere.
-pub fn measure(circuit: &[u32]) -> Measured
+pub fn measure(circuit: &[u32]) -> Result<DepthPair, Refusal>
     ensures { measured_values result ≡ measuring circuit.now }
 {
-    let number = checked::refusal(circuit);
-    if number != 0 {
-        return Measured::Refused(refuse(number, CIRCUIT_TABLE));
-    }
-    let pair = checked::pair(circuit);
-    Measured::Pair {
-        depth: pair.depth,
-        critical: pair.critical,
-    }
+    Ok(pair(&accept(circuit)?))
 }

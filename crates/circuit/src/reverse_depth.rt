@@ -1,21 +1,21 @@
 // Live and above in one pass from the last gate to the first: each reference's reverse depth (01, Circuits, 7; Depth and critical
-// count, 3).
+// count, 3). As in the definition a reverse depth is 0 where a reference isn't live: with an Option every law would say besides how one becomes
+// the other.
 ghost use Rattle.std.specs.Prelude.{◌≡◌, ◌+◌, ◌≤◌, ◌<◌, length, get_or, replicate};
 ghost use Rattle.lines.specs.Calls.{over};
-ghost use Rattle.circuit.specs.Circuit.{max_gates};
+ghost use Rattle.circuit.specs.Circuit.{max_gates, gate_of};
 ghost use Rattle.circuit.specs.Table.{refs, decode};
-ghost use Rattle.circuit.specs.WellFormed.{WellFormed};
 ghost use Rattle.circuit.specs.ReverseDepth.{mark_outputs, raise, raise_operands, reverse_depths};
 
-use crate::depth::{clear, larger, plus_counted};
-use crate::table::{Gate, closings_from, first_gate, gate_line, gates_from, output_reference};
+use crate::depth::{clear, plus_counted};
+use crate::table::{Circuit, Gate};
 
 // Place v raised to x, where it is lower.
 fn raise_place(u: &mut [u32], v: usize, x: u32)
     requires { v < length u.old }
     ensures { u.new ≡ raise u.old v x }
 {
-    u[v] = larger(u[v], x);
+    u[v] = u[v].max(x);
 }
 
 // What gate g, of place `own`, makes of its operands if it is live.
@@ -23,7 +23,7 @@ pub fn raise_operands(g: Gate, own: usize, u: &mut [u32])
     requires own_in_bounds { own < length u.old }
     requires left_in_bounds { (g.left < length u.old) × (g.right < length u.old) }
     requires own_bound { get_or u.old own 0 ≤ max_gates + 1 }
-    ensures { u.new ≡ raise_operands own g u.old }
+    ensures { u.new ≡ raise_operands own (gate_of g) u.old }
 {
     if u[own] == 0 {
         return;
@@ -34,34 +34,26 @@ pub fn raise_operands(g: Gate, own: usize, u: &mut [u32])
 }
 
 // Every output is live, so far with nothing above it; so far nothing else is.
-pub fn mark_outputs(t: &[u32], u: &mut [u32])
-    requires well_formed { WellFormed t.now }
-    requires t_in_bounds { refs t.now ≤ length u.old }
+pub fn mark_outputs(circuit: &Circuit<'_>, u: &mut [u32])
+    requires { refs circuit.now ≤ length u.old }
     ensures { u.new ≡
-        over (mark_outputs (decode t.now).outputs (replicate (refs t.now) 0)) u.old }
+        over (mark_outputs (decode circuit.now).outputs (replicate (refs circuit.now) 0)) u.old }
 {
-    clear(u, first_gate(t) as usize + t[1] as usize);
-    let from = closings_from(t);
-    let outputs = t[2] as usize;
-    for i in 0..outputs {
-        let reference = output_reference(t, from, i);
-        u[reference] = 1;
+    clear(u, circuit.references());
+    for i in 0..circuit.outputs() {
+        u[circuit.output(i)] = 1;
     }
 }
 
 // The reverse depth of every reference, over the front of u: from the last gate to the first, so that what is above a gate is settled
 // before its operands are raised.
-pub fn reverse_depths(t: &[u32], u: &mut [u32])
-    requires well_formed { WellFormed t.now }
-    requires t_in_bounds { refs t.now ≤ length u.old }
-    ensures { u.new ≡ over (reverse_depths (decode t.now)) u.old }
+pub fn reverse_depths(circuit: &Circuit<'_>, u: &mut [u32])
+    requires { refs circuit.now ≤ length u.old }
+    ensures { u.new ≡ over (reverse_depths (decode circuit.now)) u.old }
 {
-    mark_outputs(t, u);
-    let from = gates_from(t);
-    let first = first_gate(t) as usize;
-    let mut i = t[1] as usize;
-    while 0 < i {
-        i -= 1;
-        raise_operands(gate_line(t, from, i), first + i, u);
+    mark_outputs(circuit, u);
+    let first = circuit.first_gate() as usize;
+    for i in (0..circuit.gates()).rev() {
+        raise_operands(circuit.gate(i), first + i, u);
     }
 }

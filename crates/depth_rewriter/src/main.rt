@@ -1,8 +1,13 @@
 // Prints the listing for the files circuit, rules and sites of the current folder, or the line of the refusal (01, Marked examples, 1 and 2).
 #![tactic(auto)]
 
-use files::print_files;
+use files::{Case, print_files};
 
 fn main(rt: HostRuntime) {
-    print_files(&rt, b"circuit", b"rules", b"sites");
+    let names = Case {
+        circuit: b"circuit".as_slice(),
+        rules: b"rules".as_slice(),
+        sites: b"sites".as_slice(),
+    };
+    print_files(&rt, names);
 }

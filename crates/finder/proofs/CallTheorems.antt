@@ -26,8 +26,7 @@ use Rattle.rules.specs.MatchCall.{match_checks, matching}
 use Rattle.rules.specs.Verdict.{SiteMatch, passes, not_a_gate, no_match, judgement, early_verdict, failing, verdict_by, match_at, match_site}
 use Rattle.rules.proofs.VerdictLaws.{site-at}
 use Rattle.rules.proofs.JudgedLaws.{early-none, early-site}
-use Rattle.finder.specs.declared.search.Searched.{Searched}
-use Rattle.finder.specs.Search.{whole_search, first_match}
+use Rattle.finder.specs.Search.{Searched, whole_search, first_match}
 use Rattle.finder.specs.FindCall.{a_mask, no_mask, spent, searched_values, found_values, find_checks, finding}
 use Rattle.finder.specs.Theorems.{VerdictIsTheSites, SpentIsMoreWays, NoneIsNoMatch, MaskIsSmallest}
 use Rattle.finder.proofs.CallLaws.{of-spent, of_mask, of_none, in-verdict, in-search}

@@ -9,8 +9,7 @@ use native.Mathlib.Decide.{dec_lt}
 use lib.Dec.{eqb}
 use borrow.Author.Tests.{eq-eqb, ne_eqb, eqb-true, eqb-false}
 use Rattle.lists.specs.First.{first}
-use Rattle.finder.specs.declared.search.Searched.{Searched}
-use Rattle.finder.specs.Search.{Event, trial, matched, crossed, after, raised, first_match, has}
+use Rattle.finder.specs.Search.{Searched, Event, trial, matched, crossed, after, raised, first_match, has}
 
 -- ---- tests
 

@@ -1,23 +1,19 @@
 -- A search that stops as soon as it passes the limit, step by step: it finds what the compare of the whole search with the limit says.
 -- Assumes nothing.
-use mathlib.Core.Logic.{◌⊎◌, inl, inr}
 use mathlib.Core.Path.{◌≡◌, refl, sym, ap, ap₂, ◌∙◌}
-use mathlib.Core.Bool.{Bool, true, false, not, ◌||◌, true≢false, false≢true}
+use mathlib.Core.Bool.{Bool, true, false, false≢true}
 use mathlib.Core.List.{List, ◌∷◌, map}
 use mathlib.Core.Option.{Option, none, some}
-use Prim.Native.Nat.{ℕ, zero, suc, ◌+◌, ◌-◌, ◌*◌, ◌%◌, ◌^◌, ◌≤◌, ◌<◌}
-use native.Mathlib.Nat.{not-suc-le-zero, one-mul}
+use Prim.Native.Nat.{ℕ, zero, suc, ◌+◌, ◌-◌, ◌^◌, ◌≤◌, ◌<◌}
+use native.Mathlib.Nat.{not-suc-le-zero}
 use native.Mathlib.Omega.{arith}
 use native.Mathlib.Decide.{dec_lt}
-use lib.Dec.{eqb}
-use lib.Pow.{shl_exact}
-use borrow.Author.Tests.{eqb-true, eqb-false, lt-ltb, le-ltb}
+use borrow.Author.Tests.{lt-ltb, le-ltb}
 use Rattle.lists.specs.First.{first}
 use Rattle.circuit.specs.Circuit.{Circuit}
-use Rattle.rules.specs.Rule.{Rule, max_lefts}
-use Rattle.rules.specs.Match.{match_left, attempt}
-use Rattle.finder.specs.declared.search.Searched.{Searched}
-use Rattle.finder.specs.Search.{trial, crossed, events, nothing, after, raised, first_match, over_limit, within}
+use Rattle.rules.specs.Rule.{Rule}
+use Rattle.rules.specs.Match.{match_left}
+use Rattle.finder.specs.Search.{Searched, trial, crossed, events, nothing, after, raised, first_match, over_limit, within}
 use Rattle.finder.proofs.EventLaws.{joined, first-append, first-trial, first-crossed}
 
 pub same : (f g : Searched) → f.matched ≡ g.matched → f.mask ≡ g.mask → f.ways ≡ g.ways → f ≡ g
@@ -161,12 +157,13 @@ module _ (c : Circuit) (u : Rule) where
   failed (suc i) = refl
 
   -- after a trial that failed, and after one that was the last
-  pub after-end : (i n : ℕ) (holds : Bool) (b : List ℕ) → (not holds || eqb i 0) ≡ true
-      → record { matched = holds; mask = 0; ways = 0 } ≡ within n (found_after i (attempt holds b))
+  pub after-failed : (i n : ℕ) → nothing ≡ within n (found_after i none)
+  after-failed i n = sym (ap (within n) (failed i) ∙ within-limit n nothing (omega arith))
+
+  pub after-last : (i n : ℕ) (b : List ℕ) → i ≡ 0 → record { matched = true; mask = 0; ways = 0 } ≡ within n (found_after i (some b))
   unfolding events first_match
-  after-end i n false b e = sym (ap (within n) (failed i) ∙ within-limit n nothing (omega arith))
-  after-end i n true b e =
-      sym (ap (λ (k : ℕ). within n (found_after k (some b))) (eqb-true i 0 e) ∙ within-limit n (record { matched = true; mask = 0; ways = 0 }) (omega arith))
+  after-last i n b e =
+      sym (ap (λ (k : ℕ). within n (found_after k (some b))) e ∙ within-limit n (record { matched = true; mask = 0; ways = 0 }) (omega arith))
 
   step : (i : ℕ) (b : List ℕ)
       → found_after (suc i) (some b) ≡ both (2 ^ i) (found_after i (match_left c u i false b)) (found_after i (match_left c u i true b))
@@ -178,56 +175,40 @@ module _ (c : Circuit) (u : Rule) where
       ∙ ap₂ joined (first-trial xs) (first-trial ys ∙ ap (after 1) (first-crossed (2 ^ i) (events c u i (match_left c u i true b))))
 
   -- x and y are what the trials of gate left - 1 leave, as written and crosswise
-  pub next-gate : (left : ℕ) (holds : Bool) (b : List ℕ) (x y : Option (List ℕ)) → 0 < left → holds ≡ true
+  pub next-gate : (left : ℕ) (b : List ℕ) (x y : Option (List ℕ)) → 0 < left
       → x ≡ match_left c u (left - 1) false b → y ≡ match_left c u (left - 1) true b
-      → both (2 ^ (left - 1)) (found_after (left - 1) x) (found_after (left - 1) y) ≡ found_after left (attempt holds b)
-  next-gate zero holds b x y l t ex ey = absurd (not-suc-le-zero l)
-  next-gate (suc i) holds b x y l t ex ey =
+      → both (2 ^ (left - 1)) (found_after (left - 1) x) (found_after (left - 1) y) ≡ found_after left (some b)
+  next-gate zero b x y l ex ey = absurd (not-suc-le-zero l)
+  next-gate (suc i) b x y l ex ey =
       let s : suc i - 1 ≡ i = omega arith in
       ap₂ (λ (v w : Option (List ℕ)). both (2 ^ (suc i - 1)) (found_after (suc i - 1) v) (found_after (suc i - 1) w)) ex ey
       ∙ ap (λ (k : ℕ). both (2 ^ k) (found_after k (match_left c u k false b)) (found_after k (match_left c u k true b))) s
       ∙ sym (step i b)
-      ∙ ap (λ (z : Bool). found_after (suc i) (attempt z b)) (sym t)
-
--- the bit of gate i as the code makes it
-pub worth : (i : ℕ) → i < max_lefts → (1 * 2 ^ i) % 2 ^ 32 ≡ 2 ^ i
-worth i h = shl_exact {a = 1} 1 i 32 (omega arith) (omega arith) ∙ one-mul (2 ^ i)
-
--- what is found behind a trial crosswise, whose mask is m
-pub raised_by : (n h : ℕ) (s : Searched) (m : ℕ) → ((s.matched ≡ true) × (m ≡ h + s.mask)) ⊎ ((s.matched ≡ false) × (m ≡ 0))
-    → record { matched = s.matched; mask = m; ways = n + s.ways } ≡ after n (raised h s)
-raised_by n h s m (inl e) = ap (λ k. record { matched = s.matched; mask = k; ways = n + s.ways }) (e.1 ∙ sym (ap (λ (b : Bool). first b (h + s.mask) 0) e.0))
-raised_by n h s m (inr e) = ap (λ k. record { matched = s.matched; mask = k; ways = n + s.ways }) (e.1 ∙ sym (ap (λ (b : Bool). first b (h + s.mask) 0) e.0))
-
--- where it goes on behind a trial
-pub goes_on : (i : ℕ) (holds : Bool) → (not holds || eqb i 0) ≡ false → (holds ≡ true) × (0 < i)
-goes_on i true e = (refl, omega (arith, eqb-false i 0 e))
-goes_on i false e = absurd (true≢false e)
 
 -- ---- the search that stops at the limit n, by its branches: f is what it has found behind the trial as written of gate left - 1
 
-module _ (c : Circuit) (u : Rule) (left n : ℕ) (holds : Bool) (b : List ℕ) (some_left : 0 < left) (held : holds ≡ true) where
-  pub find-spent : n ≡ 0 → over_limit n ≡ within n (found_after c u left (attempt holds b))
+module _ (c : Circuit) (u : Rule) (left n : ℕ) (b : List ℕ) (some_left : 0 < left) where
+  pub find-spent : n ≡ 0 → over_limit n ≡ within n (found_after c u left (some b))
   find-spent e =
       both-spent (2 ^ (left - 1)) n (found_after c u (left - 1) (match_left c u (left - 1) false b)) (found_after c u (left - 1) (match_left c u (left - 1) true b)) e
-      ∙ ap (within n) (next-gate c u left holds b (match_left c u (left - 1) false b) (match_left c u (left - 1) true b) some_left held refl refl)
+      ∙ ap (within n) (next-gate c u left b (match_left c u (left - 1) false b) (match_left c u (left - 1) true b) some_left refl refl)
 
   module _ (x : Option (List ℕ)) (ex : x ≡ match_left c u (left - 1) false b) (f : Searched) (e : f ≡ within (n - 1) (found_after c u (left - 1) x)) (ways-left : 0 < n) where
-    pub find-plain : f.matched ≡ true → record { matched = true; mask = f.mask; ways = f.ways + 1 } ≡ within n (found_after c u left (attempt holds b))
+    pub find-plain : f.matched ≡ true → record { matched = true; mask = f.mask; ways = f.ways + 1 } ≡ within n (found_after c u left (some b))
     find-plain t =
         both-plain (2 ^ (left - 1)) n (found_after c u (left - 1) x) (found_after c u (left - 1) (match_left c u (left - 1) true b)) f e ways-left t
-        ∙ ap (within n) (next-gate c u left holds b x (match_left c u (left - 1) true b) some_left held ex refl)
+        ∙ ap (within n) (next-gate c u left b x (match_left c u (left - 1) true b) some_left ex refl)
 
     module _ (none_yet : f.matched ≡ false) where
-      pub find-over : n ≤ f.ways + 1 → over_limit n ≡ within n (found_after c u left (attempt holds b))
+      pub find-over : n ≤ f.ways + 1 → over_limit n ≡ within n (found_after c u left (some b))
       find-over l =
           both-over (2 ^ (left - 1)) n (found_after c u (left - 1) x) (found_after c u (left - 1) (match_left c u (left - 1) true b)) f e ways-left none_yet l
-          ∙ ap (within n) (next-gate c u left holds b x (match_left c u (left - 1) true b) some_left held ex refl)
+          ∙ ap (within n) (next-gate c u left b x (match_left c u (left - 1) true b) some_left ex refl)
 
       -- g is what it has found behind the trial crosswise
       pub find-rest : f.ways + 1 < n → (y : Option (List ℕ)) → y ≡ match_left c u (left - 1) true b
           → (g : Searched) → g ≡ within (n - (f.ways + 1) - 1) (found_after c u (left - 1) y)
-          → after (f.ways + 1 + 1) (raised (2 ^ (left - 1)) g) ≡ within n (found_after c u left (attempt holds b))
+          → after (f.ways + 1 + 1) (raised (2 ^ (left - 1)) g) ≡ within n (found_after c u left (some b))
       find-rest room y ey g d =
           both_rest (2 ^ (left - 1)) n (found_after c u (left - 1) x) (found_after c u (left - 1) y) f e ways-left none_yet room g d
-          ∙ ap (within n) (next-gate c u left holds b x y some_left held ex ey)
+          ∙ ap (within n) (next-gate c u left b x y some_left ex ey)

@@ -15,8 +15,7 @@ use Rattle.circuit.specs.Circuit.{Circuit}
 use Rattle.rules.specs.Soundness.{bit}
 use Rattle.rules.specs.Rule.{Rule}
 use Rattle.rules.specs.Match.{match_left, is_swapped, match_gates}
-use Rattle.finder.specs.declared.search.Searched.{Searched}
-use Rattle.finder.specs.Search.{trial, crossed, events, first_match, has, within}
+use Rattle.finder.specs.Search.{Searched, trial, crossed, events, first_match, has, within}
 use Rattle.finder.proofs.EventLaws.{first-has, first-zero, has-append, has-trial, crossed-low, crossed-high, IsLeast, least-crossed, least-append}
 use Rattle.finder.proofs.LimitLaws.{within-limit, beyond-limit, found_after}
 

@@ -19,8 +19,7 @@ use Rattle.rules.specs.RuleTable.{rule_of}
 use Rattle.rules.specs.Verdict.{passes, not_a_gate, judgement, early_verdict}
 use Rattle.rules.proofs.JudgedLaws.{early-none}
 use Rattle.rules.proofs.TrimmedLaws.{AlikeOption, start-alike, gate-alike, old-either}
-use Rattle.finder.specs.declared.search.Searched.{Searched}
-use Rattle.finder.specs.Search.{trial, crossed, events, whole_search, first_match}
+use Rattle.finder.specs.Search.{Searched, trial, crossed, events, whole_search, first_match}
 use Rattle.finder.specs.FindCall.{searched_values, found_values}
 use Rattle.finder.proofs.CallLaws.{in-verdict}
 

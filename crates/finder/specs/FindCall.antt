@@ -1,19 +1,19 @@
 -- The call `find_mask` (02, 2026-02): what it gives back, for every input.
-use Rattle.std.specs.Prelude.{ℕ, Bool, not, ◌&&◌, List, [], ◌∷◌, ◌++◌, eqb, leb, ltb}
+use Rattle.std.specs.Prelude.{ℕ, Bool, not, ◌&&◌, List, [], ◌∷◌, ◌++◌, eqb, leb, ltb, Result as Returned, Ok, Err}
 use Rattle.lists.specs.First.{first}
-use Rattle.lines.specs.declared.Refusal.{Refusal}
-use Rattle.lines.specs.Refusal.{Result, refused, gives, no_table}
+use Rattle.lines.specs.declared.refusing.Refusal.{Refusal as GivenRefusal}
+use Rattle.lines.specs.Refusal.{Refusal, Result, answer_of, no_table}
 use Rattle.lines.specs.Checks.{check, answering}
 use Rattle.circuit.specs.Circuit.{Circuit}
 use Rattle.circuit.specs.Table.{decode}
 use Rattle.circuit.specs.Trim.{trim}
 use Rattle.rules.specs.MatchCall.{match_checks}
 use Rattle.rules.specs.RuleTable.{rule_of}
-use Rattle.rules.specs.Verdict.{passes, judgement, early_verdict}
+use Rattle.rules.specs.declared.Verdict.{Verdict as SiteVerdict}
+use Rattle.rules.specs.Verdict.{passes, judgement, early_verdict, verdict_number}
 use Rattle.finder.specs.declared.Found.{Found}
-use Rattle.finder.specs.declared.Found.TheVariants.{Mask, Verdict, NoMask, Spent, Refused}
-use Rattle.finder.specs.declared.search.Searched.{Searched}
-use Rattle.finder.specs.Search.{max_ways, whole_search, first_match}
+use Rattle.finder.specs.declared.Found.TheVariants.{Mask, Verdict, NoMask, Spent}
+use Rattle.finder.specs.Search.{Searched, max_ways, whole_search, first_match}
 
 -- The outcomes by their numbers. The verdicts 1 to 3 of a site keep theirs; 02 has no others, so that those of a mask, of "none" and of "spent"
 -- are decided here (docs/DECISIONS.md).
@@ -27,12 +27,19 @@ abbrev pub spent : ℕ
 spent = 5
 
 -- the answer: a success gives the outcome, the mask, which is 0 where there is none, and the ways
-abbrev pub paper_values : Found → Result
-paper_values (Mask mask ways) = gives (a_mask ∷ mask ∷ ways ∷ [])
-paper_values (Verdict v) = gives (v ∷ 0 ∷ 0 ∷ [])
-paper_values (NoMask ways) = gives (no_mask ∷ 0 ∷ ways ∷ [])
-paper_values (Spent limit) = gives (spent ∷ 0 ∷ limit ∷ [])
-paper_values (Refused r) = refused r.number r.table
+abbrev pub values_of : Found → List ℕ
+values_of (Mask mask ways) = a_mask ∷ mask ∷ ways ∷ []
+values_of (Verdict v) = verdict_number v ∷ 0 ∷ 0 ∷ []
+values_of (NoMask ways) = no_mask ∷ 0 ∷ ways ∷ []
+values_of (Spent limit) = spent ∷ 0 ∷ limit ∷ []
+
+abbrev pub paper_values : Returned Found GivenRefusal → Result
+paper_values = answer_of values_of
+
+-- the values of what the search found, or of a verdict that applies before it
+abbrev pub values_or : Returned Found SiteVerdict → List ℕ
+values_or (Ok found) = values_of found
+values_or (Err v) = values_of (Verdict v)
 
 -- "spent" exactly if the search has more ways than the limit, and then with the limit; else its mask, or "none", with its ways
 unfoldable pub searched_values : (limit : ℕ) → Searched → List ℕ

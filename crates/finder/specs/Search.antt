@@ -1,12 +1,13 @@
 -- 02, 2026-02: the search for the mask by which a rule matches at a gate, as the list of all that happens in it, without any limit and without
 -- its end at a match. What a search finds, and in how many ways, is read off this list.
 use Rattle.std.specs.Prelude.{ℕ, zero, suc, ◌+◌, ◌^◌, Bool, true, false, List, [], ◌∷◌, ◌++◌, map, eqb, ltb, length}
+use Rattle.std.specs.Prelude.{Option as Optional, Some, None, is_some}
 use Rattle.std.proofs.Math.Option.{Option, none, some}
 use Rattle.lists.specs.First.{first}
 use Rattle.circuit.specs.Circuit.{Circuit}
 use Rattle.rules.specs.Rule.{Rule}
 use Rattle.rules.specs.Match.{match_left, start_bindings}
-use Rattle.finder.specs.declared.search.Searched.{Searched}
+use Rattle.finder.specs.declared.search.Searched.{Searched as FoundMask}
 
 -- A trial is one way. A match is of the mask whose bits are the trials that led to it: 0 as written, 1 crosswise.
 pub data Event : Type 0 where
@@ -28,6 +29,11 @@ events c u (suc i) (some b) =
     (trial ∷ events c u i (match_left c u i false b))
     ++ (trial ∷ map (crossed (2 ^ i)) (events c u i (match_left c u i true b)))
 
+-- the bindings that a trial of the code left, if it held
+abbrev pub left_by : Optional (List ℕ) → Option (List ℕ)
+left_by None = none
+left_by (Some b) = some b
+
 -- the whole search at a gate: all left gates to go, the last one bound to the gate
 abbrev pub whole_search : Circuit → Rule → (gate : ℕ) → List Event
 whole_search c u gate = events c u (length u.lefts) (some (start_bindings u gate))
@@ -39,6 +45,19 @@ has m (trial ∷ es) = has m es
 has m (matched k ∷ es) = first (eqb m k) true (has m es)
 
 -- ---- what is found: whether there is a match, its mask, else 0, and the ways
+
+pub record Searched : Type 0 where
+  pub matched : Bool
+  pub mask : ℕ
+  pub ways : ℕ
+
+-- of what the code has found
+abbrev pub mask_or_zero : Optional ℕ → ℕ
+mask_or_zero None = 0
+mask_or_zero (Some m) = m
+
+abbrev pub searched_of : FoundMask → Searched
+searched_of s = record { matched = is_some s.mask; mask = mask_or_zero s.mask; ways = s.ways }
 
 abbrev pub nothing : Searched
 nothing = record { matched = false; mask = 0; ways = 0 }

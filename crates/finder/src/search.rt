@@ -1,73 +1,85 @@
 // The search for the mask by which a rule matches at a gate (02, 2026-02).
 ghost use Rattle.std.specs.Prelude.{◌≡◌, ◌+◌, ◌^◌, ◌<◌, ◌≤◌};
-ghost use Rattle.circuit.specs.Table.{refs, gates_from, decode};
-ghost use Rattle.circuit.specs.WellFormed.{WellFormed};
-ghost use Rattle.rules.specs.Match.{attempt};
+ghost use Rattle.std.specs.Option.{option_copied};
+ghost use Rattle.circuit.specs.Circuit.{max_references};
+ghost use Rattle.circuit.specs.Table.{refs, decode};
+ghost use Rattle.rules.specs.Match.{match_left};
 ghost use Rattle.rules.specs.Rule.{max_lefts};
-ghost use Rattle.rules.specs.RuleTable.{lefts_at, rule_at};
-ghost use Rattle.rules.specs.WellFormed.{WellFormedRule};
-ghost use Rattle.finder.specs.Search.{events, whole_search, after, raised, first_match, max_ways, over_limit, within};
+ghost use Rattle.rules.specs.Remembered.{said};
+ghost use Rattle.rules.specs.RuleTable.{lefts_at};
+ghost use Rattle.finder.specs.Search.{events, whole_search, after, raised, first_match, max_ways, over_limit, within, searched_of, left_by};
 
-use circuit::checked::gates_from;
-use rules::checked::{BINDINGS, match_left, start_bindings};
+use circuit::checked::Circuit;
+use rules::checked::{Bindings, Rule, match_left, start_bindings};
 
-// What a search has found: whether there is a match, its mask, else 0, and the ways tried.
-#[derive(Clone, Copy)]
+// What a search has found: the mask of the match, if there is one, and the ways tried.
+#[derive(Clone, Copy, Debug, PartialEq, Eq)]
 pub struct Searched {
-    pub matched: bool,
-    pub mask: u32,
+    pub mask: Option<u32>,
     pub ways: u32,
 }
 
 // What is found where one way more than the limit is asked for: no match, and that way is counted.
 fn over_limit(limit: u32) -> Searched
     requires { limit ≤ max_ways }
-    ensures { result ≡ over_limit limit }
+    ensures { searched_of result ≡ over_limit limit }
 {
     Searched {
-        matched: false,
-        mask: 0,
+        mask: None,
         ways: limit + 1,
     }
 }
 
 // What is found after `ways` ways, the last of them the trial crosswise of left gate i, where s is found behind it.
 fn behind_crossed(ways: u32, i: u32, s: Searched) -> Searched
-    requires { (i < max_lefts) × ((s.mask < 2 ^ i) × (ways + s.ways ≤ max_ways + 1)) }
-    ensures { result ≡ after ways (raised (2 ^ i) s) }
+    requires { (i < max_lefts) × (((searched_of s).mask < 2 ^ i) × (ways + s.ways ≤ max_ways + 1)) }
+    ensures { searched_of result ≡ after ways (raised (2 ^ i) (searched_of s)) }
 {
-    let mask = if s.matched { (1 << i) + s.mask } else { 0 };
     Searched {
-        matched: s.matched,
-        mask: mask,
+        mask: s.mask.map(|mask| (1 << i) + mask),
         ways: ways + s.ways,
     }
 }
 
-// What is found after a trial, with `ahead` left gates of the rule at number p of t still to be tried, in at most `limit` ways: it stops before
-// a trial that would be one more, and counts that one. The trial before it says whether its gate's part of the match held, and the bindings that
-// it left, which are of no more use if it did not.
+// A trial of left gate i of a rule, on bindings that it may change: they are left if its part of the match holds.
+fn try_left<'b>(
+    c: &Circuit<'_>,
+    rule: &Rule,
+    i: u32,
+    swap: bool,
+    bindings: &'b mut Bindings,
+) -> Option<&'b Bindings>
+    requires { i < lefts_at rule.now.table.now rule.now.from }
+    ensures { left_by (option_copied result) ≡ match_left (decode c.now) (said rule.now) i swap bindings.old }
+{
+    if match_left(c, rule, i, swap, bindings) {
+        return Some(bindings);
+    }
+    None
+}
+
+// What is found after a trial, by the bindings that it left, with `ahead` left gates of a rule still to be tried, in at most `limit` ways: it stops
+// before a trial that would be one more, and counts that one. The bindings are lent, since a copy costs more than a trial.
 fn follow(
-    c: &[u32],
-    from: usize,
-    t: &[u32],
-    p: usize,
+    c: &Circuit<'_>,
+    rule: &Rule,
     ahead: u32,
-    holds: bool,
-    bindings: [u32; BINDINGS],
+    bindings: Option<&Bindings>,
     limit: u32,
 ) -> Searched
-    requires well_formed { WellFormed c.now }
-    requires from_value { from ≡ gates_from c.now }
-    requires well_formed_rule { WellFormedRule t.now p }
-    requires ahead_bound { (ahead ≤ lefts_at t.now p) × (limit ≤ max_ways) }
-    ensures { result ≡ within limit
-        (first_match (events (decode c.now) (rule_at t.now p) ahead (attempt holds bindings))) }
+    requires { (ahead ≤ lefts_at rule.now.table.now rule.now.from) × (limit ≤ max_ways) }
+    ensures { searched_of result ≡ within limit
+        (first_match (events (decode c.now) (said rule.now) ahead (left_by (option_copied bindings.entry)))) }
 {
-    if !holds | (ahead == 0) {
+    let Some(bindings) = bindings else {
         return Searched {
-            matched: holds,
-            mask: 0,
+            mask: None,
+            ways: 0,
+        };
+    };
+    if ahead == 0 {
+        return Searched {
+            mask: Some(0),
             ways: 0,
         };
     }
@@ -75,34 +87,30 @@ fn follow(
         return over_limit(limit);
     }
     let i = ahead - 1;
-    let mut as_written = bindings;
-    let plain = match_left(c, from, t, p, i, false, &mut as_written);
-    let found = follow(c, from, t, p, i, plain, as_written, limit - 1);
+    let mut left = *bindings;
+    let as_written = try_left(c, rule, i, false, &mut left);
+    let found = follow(c, rule, i, as_written, limit - 1);
     let ways = found.ways + 1;
-    if found.matched {
+    if let Some(mask) = found.mask {
         return Searched {
-            matched: true,
-            mask: found.mask,
-            ways: ways,
+            mask: Some(mask),
+            ways,
         };
     }
     if limit <= ways {
         return over_limit(limit);
     }
-    let mut crosswise = bindings;
-    let crossed = match_left(c, from, t, p, i, true, &mut crosswise);
-    let rest = follow(c, from, t, p, i, crossed, crosswise, limit - ways - 1);
+    let mut left = *bindings;
+    let crosswise = try_left(c, rule, i, true, &mut left);
+    let rest = follow(c, rule, i, crosswise, limit - ways - 1);
     behind_crossed(ways + 1, i, rest)
 }
 
-// What is found of the rule at number p of t at a gate, in at most `limit` ways.
-pub fn search_at(c: &[u32], t: &[u32], p: usize, gate: u32, limit: u32) -> Searched
-    requires well_formed { WellFormed c.now }
-    requires well_formed_rule { WellFormedRule t.now p }
-    requires gate_bound { (gate < refs c.now) × (limit ≤ max_ways) }
-    ensures { result ≡ within limit (first_match (whole_search (decode c.now) (rule_at t.now p) gate)) }
+// What is found of a rule at a gate, in at most `limit` ways.
+pub fn search_at(c: &Circuit<'_>, rule: &Rule, gate: u32, limit: u32) -> Searched
+    requires { ((gate < refs c.now) × (refs c.now ≤ max_references)) × (limit ≤ max_ways) }
+    ensures { searched_of result ≡ within limit (first_match (whole_search (decode c.now) (said rule.now) gate)) }
 {
-    let mut b = [0u32; BINDINGS];
-    start_bindings(t, p, gate, &mut b);
-    follow(c, gates_from(c), t, p, t[p + 1], true, b, limit)
+    let start = start_bindings(rule, gate);
+    follow(c, rule, rule.lefts(), Some(&start), limit)
 }

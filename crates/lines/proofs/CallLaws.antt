@@ -8,7 +8,7 @@ use native.Mathlib.Omega.{arith}
 use lib.Dec.{eqb}
 use lib.ListN.{length, take, drop, get_or, length-append, length-drop}
 use lib.Seq.{take_at}
-use borrow.Author.Tests.{eq-eqb, ne_eqb, eqb-true, eqb-false, lt-ltb, le-ltb, ltb-false, not-false}
+use borrow.Author.Tests.{eqb-true, eqb-false, lt-ltb, le-ltb, ltb-false, not-false}
 use Rattle.lists.specs.First.{first}
 use Rattle.lists.specs.Records.{map_records, all_records}
 use Rattle.lists.proofs.Records.{map-length}
@@ -25,12 +25,12 @@ whole-test false rest e = (refl, not-false rest e)
 whole-test true rest e = (e, let z : ◌≡◌ {A = ℕ} 0 1 = ap (λ (b : Bool). first b 0 1) e in absurd (omega arith))
 
 -- a source that is n whole lines of `size` elements
-pub record Whole (size : ℕ) (source : List ℕ) (n : ℕ) : Type 0 where
+pub record Whole {A : Type 0} (size : ℕ) (source : List A) (n : ℕ) : Type 0 where
   pub count : n ≡ length source / size
   pub long : length source ≡ size * n
   pub some : 0 < n
 
-module _ (size : ℕ) (source : List ℕ) where
+module _ {A : Type 0} (size : ℕ) (source : List A) where
   pub whole_is : is_partial size source ≡ false → Whole size source (length source / size)
   unfolding is_partial
   whole_is e =
@@ -39,34 +39,14 @@ module _ (size : ℕ) (source : List ℕ) where
       let some : length source / size ≡ 0 → ⊥ = λ z. eqb-false (length source) 0 k.0 (long ∙ ap (λ (n : ℕ). size * n) z ∙ mul-zero size) in
       record { count = refl; long = long; some = omega arith }
 
-  -- ---- what a validation gives
-
-  module _ (test : List ℕ → Bool) where
-    pub valid-empty : length source ≡ 0 → refused 1 0 ≡ validation size test source
-    unfolding validation is_partial answering first_found check
-    valid-empty h = rw (eq-eqb _ _ h)
-
-    pub valid-partial : (length source ≡ 0 → ⊥) → (length source % size ≡ 0 → ⊥) → refused 1 0 ≡ validation size test source
-    unfolding validation is_partial answering first_found check
-    valid-partial h k = rw (ne_eqb _ _ h, ne_eqb _ _ k)
-
-    module _ (h : length source ≡ 0 → ⊥) (k : length source % size ≡ 0) where
-      pub valid-wrong : all_records test size (length source / size) source ≡ false → refused 3 0 ≡ validation size test source
-      unfolding validation is_partial answering first_found check
-      valid-wrong e = rw (ne_eqb _ _ h, eq-eqb _ _ k, e)
-
-      pub valid-right : all_records test size (length source / size) source ≡ true → gives (length source / size ∷ []) ≡ validation size test source
-      unfolding validation is_partial answering first_found check
-      valid-right e = rw (ne_eqb _ _ h, eq-eqb _ _ k, e)
-
 -- ---- what a success of a validation says
 
-pub record Valid (size : ℕ) (test : List ℕ → Bool) (source : List ℕ) (n : ℕ) : Type 0 where
+pub record Valid {A : Type 0} (size : ℕ) (test : List A → Bool) (source : List A) (n : ℕ) : Type 0 where
   pub whole : Whole size source n
   pub not-partial : is_partial size source ≡ false
   pub right : all_records test size n source ≡ true
 
-module _ (size : ℕ) (test : List ℕ → Bool) (source : List ℕ) where
+module _ {A : Type 0} (size : ℕ) (test : List A → Bool) (source : List A) where
   pub valid-passed : Passed (line_checks size test source) → Valid size test source (length source / size)
   valid-passed p =
       let w = check-passed (is_partial size source) 0 no_table p.0 in
@@ -80,7 +60,7 @@ module _ (size : ℕ) (test : List ℕ → Bool) (source : List ℕ) where
 
 -- ---- what a conversion gives, by its validation
 
-module _ (size width : ℕ) (test : List ℕ → Bool) (make : List ℕ → List ℕ) (source buffer : List ℕ) where
+module _ {A B : Type 0} (size width : ℕ) (test : List A → Bool) (make : List A → List B) (source : List A) (buffer : List B) where
   pub conversion-refused : (k t : ℕ) → validation size test source ≡ refused k t → leaving (refused k t) buffer ≡ conversion size width test make source buffer
   unfolding validation conversion
   conversion-refused k t e =
@@ -94,8 +74,8 @@ module _ (size width : ℕ) (test : List ℕ → Bool) (make : List ℕ → List
         let right : all_records test size (length source / size) source ≡ true = rw (← v.whole.count) v.right in
         rw (e, v.not-partial, right, ← v.whole.count, lt-ltb _ _ h)
 
-    pub conversion-done : ((t : List ℕ) → length (make t) ≡ width) → width * n ≤ length buffer
-        → (after : List ℕ) → after ≡ map_records make size n source ++ drop (width * n) buffer
+    pub conversion-done : ((t : List A) → length (make t) ≡ width) → width * n ≤ length buffer
+        → (after : List B) → after ≡ map_records make size n source ++ drop (width * n) buffer
         → leaving (gives (n ∷ [])) after ≡ conversion size width test make source buffer
     unfolding conversion answering first_found check
     conversion-done wide h after e =
@@ -105,13 +85,13 @@ module _ (size width : ℕ) (test : List ℕ → Bool) (make : List ℕ → List
 -- ---- what an answer says, for callers
 
 -- a success has converted n valid lines into a buffer with room for them
-pub record Converted (size width : ℕ) (test : List ℕ → Bool) (make : List ℕ → List ℕ) (source buffer after : List ℕ) (n : ℕ) : Type 0 where
+pub record Converted {A B : Type 0} (size width : ℕ) (test : List A → Bool) (make : List A → List B) (source : List A) (buffer after : List B) (n : ℕ) : Type 0 where
   pub valid : Valid size test source n
   pub room : width * n ≤ length buffer
   pub result : after ≡ map_records make size n source ++ drop (width * n) buffer
 
-module _ (size width : ℕ) (test : List ℕ → Bool) (make : List ℕ → List ℕ) (source buffer : List ℕ) where
-  pub converted : ((t : List ℕ) → length (make t) ≡ width) → (n : ℕ) → (conversion size width test make source buffer).answer ≡ gives (n ∷ [])
+module _ {A B : Type 0} (size width : ℕ) (test : List A → Bool) (make : List A → List B) (source : List A) (buffer : List B) where
+  pub converted : ((t : List A) → length (make t) ≡ width) → (n : ℕ) → (conversion size width test make source buffer).answer ≡ gives (n ∷ [])
       → Converted size width test make source buffer (conversion size width test make source buffer).buffers n
   unfolding conversion
   converted wide n e =
@@ -123,7 +103,7 @@ module _ (size width : ℕ) (test : List ℕ → Bool) (make : List ℕ → List
       rw (← s) (record { valid = v; room = r; result = ap (λ o. o.buffers) (sym (conversion-done size width test make source buffer m v wide r _ refl)) })
 
 -- the elements that a success has left
-module _ (size width : ℕ) (test : List ℕ → Bool) (make : List ℕ → List ℕ) (wide : (t : List ℕ) → length (make t) ≡ width) (source buffer after : List ℕ) (n : ℕ)
+module _ {A B : Type 0} (size width : ℕ) (test : List A → Bool) (make : List A → List B) (wide : (t : List A) → length (make t) ≡ width) (source : List A) (buffer after : List B) (n : ℕ)
     (k : Converted size width test make source buffer after n) where
   pub converted-all : take (width * n) after ≡ map_records make size n source
   converted-all = ap (take (width * n)) k.result ∙ take_at (map_records make size n source) (drop (width * n) buffer) (width * n) (map-length make size width wide n source)

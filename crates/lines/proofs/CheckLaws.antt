@@ -6,9 +6,15 @@ use Prim.Native.Nat.{ℕ, suc}
 use native.Mathlib.Omega.{arith}
 use lib.Dec.{eqb}
 use borrow.Author.Tests.{eq-eqb, ne_eqb, eqb-true, eqb-false}
+use Rattle.std.specs.Prelude.{Option, Result as Returned, Ok, Err, IsErr, IsErrAnd, MatchResult}
+use Rattle.std.proofs.lemmas.Result.{err_from_is_err_and}
 use Rattle.lists.specs.First.{first}
-use Rattle.lines.specs.declared.Refusal.{Refusal}
-use Rattle.lines.specs.Refusal.{Result, refused, gives, leaving}
+use Rattle.lines.specs.declared.refusing.Reason.{Reason}
+use Rattle.lines.specs.declared.refusing.Reason.TheVariants.{WrongLength, BufferTooShort, LineIllWritten, HeadOutOfLimits, LinesNotAsHeadSays, UnknownKind}
+use Rattle.lines.specs.declared.refusing.Reason.TheVariants.{ReferenceOutOfRange, UnusedReference, RegisterLimitOutOfRange, TooFewRegisters, WrongStart, WayLimitOutOfRange}
+use Rattle.lines.specs.declared.refusing.Refusal.{Refusal as GivenRefusal}
+use Rattle.lines.specs.declared.refusing.Table.{Table}
+use Rattle.lines.specs.Refusal.{Refusal, Result, refused, gives, leaving, reason_number, table_number, refusal_of, found_by, number_found_by, answer_of}
 use Rattle.lines.specs.Checks.{found, check, first_found, answering, afterwards}
 
 -- ---- one test
@@ -185,3 +191,89 @@ module _ (ls : List Refusal) where
   pub answer-behind : (ks : List Refusal) (values : List ℕ) → Passed ks → answering (ks ++ ls) values ≡ answering ls values
   unfolding answering
   answer-behind ks values p = rw (found-behind ks p)
+
+-- ---- checks with `?` behind them: what the code has found so far, or has been refused for
+
+-- a refusal has a number
+pub reason-some : (reason : Reason) → reason_number reason ≡ 0 → ⊥
+reason-some WrongLength z = omega (arith, z)
+reason-some BufferTooShort z = omega (arith, z)
+reason-some LineIllWritten z = omega (arith, z)
+reason-some HeadOutOfLimits z = omega (arith, z)
+reason-some LinesNotAsHeadSays z = omega (arith, z)
+reason-some UnknownKind z = omega (arith, z)
+reason-some ReferenceOutOfRange z = omega (arith, z)
+reason-some UnusedReference z = omega (arith, z)
+reason-some RegisterLimitOutOfRange z = omega (arith, z)
+reason-some TooFewRegisters z = omega (arith, z)
+reason-some WrongStart z = omega (arith, z)
+reason-some WayLimitOutOfRange z = omega (arith, z)
+
+-- The checks ks have found e. Then all checks do, where ks are the first of them.
+pub refused_at : (e : GivenRefusal) (ks : List Refusal) → refusal_of e ≡ first_found ks → (ls : List Refusal) → refusal_of e ≡ first_found (ks ++ ls)
+refused_at e ks told ls = found_front ls ks (refusal_of e) told (reason-some e.reason)
+
+-- what `?` hands back as r
+pub handed_back : {A E : Type 0} (r : Returned A E) (e : E) → IsErr r × IsErrAnd r (λ d. d ≡ e) → r ≡ Err e
+handed_back r e back = let p = err_from_is_err_and r back.1 in p.1 ∙ ap Err p.2
+
+pub back-refused : {A : Type 0} (show : A → List ℕ) (r : Returned A GivenRefusal) (e : GivenRefusal) → IsErr r × IsErrAnd r (λ d. d ≡ e)
+    → answer_of show r ≡ refused (reason_number e.reason) (table_number e.table)
+back-refused show r e back = ap (answer_of show) (handed_back r e back)
+
+module _ {A : Type 0} (r : Returned A GivenRefusal) (e : GivenRefusal) (back : IsErr r × IsErrAnd r (λ d. d ≡ e)) (ks : List Refusal) (told : refusal_of e ≡ first_found ks) where
+  pub back-found : found_by r ≡ first_found ks
+  back-found = ap found_by (handed_back r e back) ∙ told
+
+  module _ (show : A → List ℕ) (values : List ℕ) where
+    pub back-answer : answer_of show r ≡ answering ks values
+    back-answer = ap (answer_of show) (handed_back r e back) ∙ sym (answer-refused ks values (refusal_of e) told (reason-some e.reason))
+
+    pub back-leaving : {B : Type 0} (old new : B) → leaving (answer_of show r) old ≡ afterwards (answering ks values) old new
+    back-leaving old new = ap (λ x. leaving (answer_of show x) old) (handed_back r e back) ∙ outcome-refused ks values old new (refusal_of e) told (reason-some e.reason)
+
+-- The checks ks have found nothing. Then all checks find what those behind ks do.
+module _ (ks : List Refusal) (told : found 0 0 ≡ first_found ks) where
+  pub all-passed : Passed ks
+  all-passed = passed ks (ap (λ r. r.number) (sym told))
+
+  pub after : (ls : List Refusal) (r : Refusal) → r ≡ first_found ls → r ≡ first_found (ks ++ ls)
+  after ls r e = e ∙ sym (found-behind ls ks all-passed)
+
+pub test-passed : (b : Bool) (n t : ℕ) → found 0 0 ≡ first_found (check b (suc n) t ∷ []) → b ≡ false
+test-passed b n t told = check-passed b n t (all-passed _ told).0
+
+pub test-refused : (b : Bool) (n t : ℕ) (e : GivenRefusal) → refusal_of e ≡ first_found (check b (suc n) t ∷ []) → (b ≡ true) × (refusal_of e ≡ found (suc n) t)
+test-refused true n t e told = (refl, told ∙ sym (applies-here true n t [] _ refl refl))
+test-refused false n t e told =
+    absurd (reason-some e.reason (ap (λ r. r.number) told ∙ none_found (check false (suc n) t ∷ []) (check-passes false (suc n) t refl, tt)))
+
+-- The checks of one table as a chain of numbers, where the test b of the first has been passed, or not.
+module _ (b : Bool) (n x t : ℕ) where
+  chain-step : first_found (found (first b (suc n) x) t ∷ []) ≡ first_found (check b (suc n) t ∷ found x t ∷ [])
+  unfolding first_found check
+  chain-step = go b
+    where
+      go : (b : Bool) → first_found (found (first b (suc n) x) t ∷ []) ≡ first_found (check b (suc n) t ∷ found x t ∷ [])
+      go true = rw (ne_eqb (suc n) 0 (λ z. omega arith))
+      go false = refl
+
+  pub chain-refused : (e : GivenRefusal) → refusal_of e ≡ first_found (check b (suc n) t ∷ []) → refusal_of e ≡ first_found (found (first b (suc n) x) t ∷ [])
+  chain-refused e told = refused_at e (check b (suc n) t ∷ []) told (found x t ∷ []) ∙ sym chain-step
+
+  pub chain-passed : found 0 0 ≡ first_found (check b (suc n) t ∷ []) → (r : Refusal) → r ≡ first_found (found x t ∷ []) → r ≡ first_found (found (first b (suc n) x) t ∷ [])
+  chain-passed told r e = after (check b (suc n) t ∷ []) told (found x t ∷ []) r e ∙ sym chain-step
+
+pub chain-end : (b : Bool) (n t : ℕ) (r : Refusal) → r ≡ first_found (check b n t ∷ []) → r ≡ first_found (found (first b n 0) t ∷ [])
+unfolding check
+chain-end b n t r e = e
+
+-- What has been found in one table, by its number, is a refusal of that table, which `map_err` makes of the reason.
+pub found-in-table : {A : Type 0} (w : Returned A Reason) (r : Returned A GivenRefusal) (table : Option Table)
+    → MatchResult w (λ x. r ≡ Ok x) (λ reason. IsErrAnd r (λ e. e ≡ record { reason = reason; table = table }))
+    → found_by r ≡ first_found (found (number_found_by w) (table_number table) ∷ [])
+unfolding first_found
+found-in-table (Ok x) r table made = ap found_by made
+found-in-table (Err reason) r table made =
+    let p = err_from_is_err_and r made in
+    ap found_by (p.1 ∙ ap Err p.2) ∙ rw (ne_eqb (reason_number reason) 0 (reason-some reason))

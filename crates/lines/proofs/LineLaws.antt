@@ -1,32 +1,22 @@
 -- One line: its parts, the test of its parts, and reading back what was written. Assumes nothing.
 use mathlib.Core.Path.{◌≡◌, refl, sym, ap, ap₂, ◌∙◌}
 use mathlib.Core.Bool.{Bool, true, false, ◌&&◌, and-true, and-false, and_assoc}
-use mathlib.Core.List.{List, [], ◌∷◌, ◌++◌, append_assoc}
+use mathlib.Core.List.{List, [], ◌∷◌, ◌++◌, append_assoc, append-nil}
 use Prim.Native.Nat.{ℕ, ◌+◌, ◌≤◌}
-use native.Mathlib.Nat.{add-zero}
-use native.Mathlib.Numerals.{add-one, add-two}
 use native.Mathlib.Omega.{arith}
 use lib.Dec.{eqb, leb}
-use lib.ListN.{length, take, drop, get_or, set, length-append, length-drop}
-use lib.Seq.{sets, take-add, drop-drop, drop-cons, get_or-drop, take_at, drop_at, length-take-le}
+use lib.ListN.{length, take, drop, get_or, set, length-append, length-drop, drop_of_length-le}
+use lib.Seq.{sets, length-sets, take-add, drop-cons, take_at, drop_at, length-take-le}
 use borrow.Author.Tests.{leb-true}
 use Rattle.lists.specs.Same.{same}
 use Rattle.lists.proofs.Tests.{both, left-of, right_of}
 use Rattle.lists.proofs.Same.{same_refl, same-is, same-append}
-use Rattle.lists.proofs.Stores.{sets-append}
+use Rattle.lists.proofs.Stores.{sets-append, sets_behind, put_mid-sets}
+use borrow.Rule.Slice.PartMut.{put_mid}
 use Rattle.lines.specs.Number.{write_number, read_number, is_number}
 use Rattle.lines.specs.Line.{is_row, is_line, write_line, read_line}
-use Rattle.lines.proofs.NumberLaws.{number-length, read_back}
-
--- ---- lengths
-
-pub row-length : (t : List ℕ) → length (read_line t) ≡ 3
-unfolding read_line
-row-length t = refl
-
-pub line-length : (t : List ℕ) → length (write_line t) ≡ 19
-unfolding write_line
-line-length t = simp (length-append, number-length)
+use Rattle.lines.specs.RecordLaws.{number-length, line-length}
+use Rattle.lines.proofs.NumberLaws.{read_back}
 
 -- only the first three numbers of a table make its first row
 
@@ -67,7 +57,7 @@ three-by-three true l₁ l₂ false s₁ s₂ e = and-false (l₁ && l₂)
 three-by-three true l₁ l₂ true s₁ s₂ e = two-by-two l₁ l₂ s₁ s₂ e
 
 -- a line is three numbers and byte 10
-line-test : (t : List ℕ) → 19 ≤ length t → is_number t && is_number (drop 6 t) && is_number (drop 12 t) && eqb (get_or t 18 0) 10 ≡ is_line t
+pub line-test : (t : List ℕ) → 19 ≤ length t → is_number t && is_number (drop 6 t) && is_number (drop 12 t) && eqb (get_or t 18 0) 10 ≡ is_line t
 unfolding is_line is_row read_line write_line
 line-test t h =
     let n₀ = read_number t in
@@ -86,36 +76,33 @@ line-test t h =
     ∙ parts_same x₀ x₁ x₂ (write_number n₀) (write_number n₁) (write_number n₂) (get_or t 18 0) (six 0 n₀ (omega arith)) (six 6 n₁ (omega arith)) (six 12 n₂ (omega arith)))
     ∙ three-by-three (leb n₀ 999999) (leb n₁ 999999) (leb n₂ 999999) (same x₀ (write_number n₀)) (same x₁ (write_number n₁)) (same x₂ (write_number n₂)) (eqb (get_or t 18 0) 10))
 
--- the same of the bytes from a place on
-pub line-test-at : (t : List ℕ) (at : ℕ) → at + 19 ≤ length t
-    → is_number (drop at t) && is_number (drop (at + 6) t) && is_number (drop (at + 12) t) && eqb (get_or t (at + 18) 0) 10 ≡ is_line (drop at t)
-line-test-at t at h = simp (get_or-drop, drop-drop) at (line-test (drop at t) (rw length-drop (omega arith)))
-
 -- the three numbers of a line
-pub line-numbers : (t : List ℕ) (at : ℕ) → at + 19 ≤ length t → is_line (drop at t) ≡ true
-    → (is_number (drop at t) ≡ true) × (is_number (drop (at + 6) t) ≡ true) × (is_number (drop (at + 12) t) ≡ true)
-line-numbers t at h e =
-    let a = is_number (drop at t) in
-    let b = is_number (drop (at + 6) t) in
-    let c = is_number (drop (at + 12) t) in
-    let abc = left-of (a && b && c) _ (line-test-at t at h ∙ e) in
+pub line-numbers : (t : List ℕ) → 19 ≤ length t → is_line t ≡ true
+    → (is_number t ≡ true) × (is_number (drop 6 t) ≡ true) × (is_number (drop 12 t) ≡ true)
+line-numbers t h e =
+    let a = is_number t in
+    let b = is_number (drop 6 t) in
+    let c = is_number (drop 12 t) in
+    let abc = left-of (a && b && c) _ (line-test t h ∙ e) in
     let ab = left-of (a && b) c abc in
     (left-of a b ab, right_of a b ab, right_of (a && b) c abc)
 
--- the stores of three numbers and byte 10 are those of a line
-line-stores : (l : List ℕ) (to a b c : ℕ)
-    → set (sets (sets (sets l to (write_number a)) (to + 6) (write_number b)) (to + 12) (write_number c)) (to + 18) 10
-    ≡ sets l to (write_number a ++ write_number b ++ write_number c ++ (10 ∷ []))
-line-stores l to a b c =
-    ap (λ (x : List ℕ). set (sets x (to + 12) (write_number c)) (to + 18) 10) (sets-append (write_number a) (write_number b) l to 6 (number-length a))
-    ∙ ap (λ (x : List ℕ). set x (to + 18) 10) (sets-append (write_number a ++ write_number b) (write_number c) l to 12 (simp (length-append, number-length)))
-    ∙ sets-append (write_number a ++ write_number b ++ write_number c) (10 ∷ []) l to 18 (simp (length-append, number-length))
-
-pub line-stores-at : (l t : List ℕ) (to at : ℕ)
-    → set (sets (sets (sets l to (write_number (get_or t at 0))) (to + 6) (write_number (get_or t (at + 1) 0))) (to + 12) (write_number (get_or t (at + 2) 0))) (to + 18) 10
-    ≡ sets l to (write_line (drop at t))
-unfolding write_line
-line-stores-at l t to at = line-stores l to (get_or t at 0) (get_or t (at + 1) 0) (get_or t (at + 2) 0) ∙ simp (get_or-drop, add-zero)
+-- three numbers and byte 10, stored one after the other in 19 bytes
+pub line-written : (l a b c : List ℕ) → length l ≡ 19 → length a ≡ 6 → length b ≡ 6 → length c ≡ 6
+    → set (put_mid 12 6 (put_mid 6 6 (a ++ drop 6 l) b) c) 18 10 ≡ a ++ b ++ c ++ (10 ∷ [])
+line-written l a b c hl ha hb hc =
+    let x = a ++ drop 6 l in
+    let rest = b ++ c ++ (10 ∷ []) in
+    let long : length x ≡ 19 = rw (length-append, length-drop) (omega arith) in
+    let bc : length (b ++ c) ≡ 12 = rw length-append (omega arith) in
+    let all : length rest ≡ 13 = rw length-append (omega arith) in
+    let end : drop (length rest) (drop 6 l) ≡ [] = drop_of_length-le (drop 6 l) (rw length-drop (omega arith)) in
+    ap (λ (y : List ℕ). set (put_mid 12 6 y c) 18 10) (put_mid-sets 6 6 x b (omega arith) hb)
+    ∙ ap (λ (y : List ℕ). set y 18 10)
+    (put_mid-sets 12 6 (sets x 6 b) c (rw length-sets (omega arith)) hc ∙ sets-append b c x 6 6 hb)
+    ∙ sets-append (b ++ c) (10 ∷ []) x 6 12 bc
+    ∙ sets_behind a rest (drop 6 l) 6 ha (rw length-drop (omega arith))
+    ∙ ap (λ (y : List ℕ). a ++ rest ++ y) end ∙ simp (append-nil, append_assoc)
 
 -- ---- reading back
 
@@ -173,8 +160,3 @@ line_row t r g = left-of (is_row (read_line t)) (same (take 19 t) (write_line (r
 pub line-back : (t r : List ℕ) → is_line t ≡ true → write_line (read_line t ++ r) ≡ take 19 t
 unfolding write_line read_line is_line
 line-back t r g = sym (same-is (take 19 t) (write_line (read_line t)) (right_of (is_row (read_line t)) (same (take 19 t) (write_line (read_line t))) g))
-
--- ---- a row stored number by number
-
-pub row-stores : (d : List ℕ) (at a b c : ℕ) → set (set (set d at a) (at + 1) b) (at + 2) c ≡ sets d at (a ∷ b ∷ c ∷ [])
-row-stores d at a b c = ap₂ (λ p q. set (set (set d at a) p b) q c) (add-one at) (add-two at)

@@ -5,8 +5,8 @@ use mathlib.Core.List.{List, [], ◌∷◌, ◌++◌}
 use Prim.Native.Nat.{ℕ, zero, suc, ◌+◌, ◌-◌, ◌*◌, ◌/◌, ◌%◌, ◌≤◌, ◌<◌}
 use native.Mathlib.Nat.{add-zero, mul-div_right, mul-mod_right, mul-pos}
 use native.Mathlib.Omega.{arith}
-use lib.ListN.{length, take, drop, get_or, length-drop, take-append-drop, get_or-append}
-use lib.Seq.{length-take-le, take-append-le, drop-append-le}
+use lib.ListN.{length, take, drop, get_or, length-drop, take-append-drop}
+use lib.Seq.{length-take-le}
 use borrow.Author.Tests.{eq-eqb, ne_eqb, le-leb, not-true}
 use Rattle.lists.specs.Records.{map_records, all_records}
 use Rattle.lists.proofs.Tests.{both, left-of, right_of}
@@ -16,7 +16,8 @@ use Rattle.lines.specs.Number.{read_number, is_number}
 use Rattle.lines.specs.Line.{is_row, is_line, read_line, write_line}
 use Rattle.lines.specs.Text.{is_partial, is_table, read_text, write_table}
 use Rattle.lines.specs.Calls.{over}
-use Rattle.lines.proofs.LineLaws.{row-length, line-length, line-numbers}
+use Rattle.lines.proofs.LineLaws.{line-numbers}
+use Rattle.lines.specs.RecordLaws.{row-length, line-length, line_near, read_near, write_near}
 use Rattle.lines.proofs.CallLaws.{Valid, whole_is}
 
 -- whole lines, at least one
@@ -35,31 +36,6 @@ module _ (size : ℕ) (test : List ℕ → Bool) (t : List ℕ) where
 
   pub all_valid : (n : ℕ) → Valid size test t n → not (is_partial size t) && all_records test size (length t / size) t ≡ true
   all_valid n v = rw (v.not-partial, ← v.whole.count) v.right
-
--- ---- a line looks no further than its end
-
-number-near : (t r : List ℕ) → 6 ≤ length t → read_number (t ++ r) ≡ read_number t
-unfolding read_number
-number-near t r h =
-    rw (
-      get_or-append t r 0 0 (omega arith),
-      get_or-append t r 0 1 (omega arith),
-      get_or-append t r 0 2 (omega arith),
-      get_or-append t r 0 3 (omega arith),
-      get_or-append t r 0 4 (omega arith),
-      get_or-append t r 0 5 (omega arith),
-    )
-
-read-near : (t r : List ℕ) → 19 ≤ length t → read_line (t ++ r) ≡ read_line t
-unfolding read_line
-read-near t r h =
-    let at : (k : ℕ) → k + 6 ≤ length t → read_number (drop k (t ++ r)) ≡ read_number (drop k t) =
-    λ k l. ap read_number (drop-append-le k t r (omega arith)) ∙ number-near (drop k t) r (rw length-drop (omega arith)) in
-    rw (number-near t r (omega arith), at 6 (omega arith), at 12 (omega arith))
-
-line-near : (t r : List ℕ) → 19 ≤ length t → is_line (t ++ r) ≡ is_line t
-unfolding is_line
-line-near t r h = rw (read-near t r h, take-append-le 19 t r h)
 
 -- ---- the first k lines of a text
 
@@ -90,7 +66,7 @@ module _ (text : List ℕ) (n : ℕ) (v : Valid 19 is_line text n) (k : ℕ) (fe
           whole = record { count = sym (ap (λ (j : ℕ). j / 19) front_long ∙ mul-div_right k (omega arith)); long = front_long; some = some };
           not-partial = whole-passes 19 k (take (19 * k) text) (omega arith) front_long some;
           right =
-              sym (all_append is_line 19 line-near k (take (19 * k) text) (drop (19 * k) text) front_long)
+              sym (all_append is_line 19 line_near k (take (19 * k) text) (drop (19 * k) text) front_long)
               ∙ ap (all_records is_line 19 k) (take-append-drop (19 * k) text) ∙ front-right;
         }
 
@@ -98,7 +74,7 @@ module _ (text : List ℕ) (n : ℕ) (v : Valid 19 is_line text n) (k : ℕ) (fe
     unfolding read_text
     front_reads =
         ap (λ j. map_records read_line 19 j (take (19 * k) text)) (sym front-valid.whole.count)
-        ∙ sym (map-append read_line 19 read-near k (take (19 * k) text) (drop (19 * k) text) front_long)
+        ∙ sym (map-append read_line 19 read_near k (take (19 * k) text) (drop (19 * k) text) front_long)
         ∙ ap (map_records read_line 19 k) (take-append-drop (19 * k) text) ∙ front-numbers
 
 -- ---- m lines behind the first k, and one line by itself
@@ -117,7 +93,7 @@ module _ (text : List ℕ) (n : ℕ) (v : Valid 19 is_line text n) where
 
   module _ (i : ℕ) (h : i < n) where
     pub first-right : is_number (drop (19 * i) text) ≡ true
-    first-right = (line-numbers text (19 * i) (omega (arith, v.whole.long)) (all-at is_line 19 i n text h v.right)).0
+    first-right = (line-numbers (drop (19 * i) text) (rw length-drop (omega (arith, v.whole.long))) (all-at is_line 19 i n text h v.right)).0
 
     pub first-number : get_or (read_text text) (3 * i) 0 ≡ read_number (drop (19 * i) text)
     unfolding read_text read_line
@@ -174,17 +150,12 @@ bytes-length t n l =
 
 -- ---- the first n rows of a table
 
-write-near : (t r : List ℕ) → 3 ≤ length t → write_line (t ++ r) ≡ write_line t
-unfolding write_line
-write-near t r h =
-    rw (get_or-append t r 0 0 (omega arith), get_or-append t r 0 1 (omega arith), get_or-append t r 0 2 (omega arith))
-
 module _ (t : List ℕ) (n : ℕ) (some : 3 * n ≤ length t) where
   rows-bytes : map_records write_line 3 n t ≡ write_table (take (3 * n) t)
   unfolding write_table
   rows-bytes =
       let l = length-take-le (3 * n) t some in
-      ap (map_records write_line 3 n) (sym (take-append-drop (3 * n) t)) ∙ map-append write_line 3 write-near n (take (3 * n) t) (drop (3 * n) t) l
+      ap (map_records write_line 3 n) (sym (take-append-drop (3 * n) t)) ∙ map-append write_line 3 write_near n (take (3 * n) t) (drop (3 * n) t) l
       ∙ ap (λ j. map_records write_line 3 j (take (3 * n) t)) (sym (ap (λ (j : ℕ). j / 3) l ∙ mul-div_right n (omega arith)))
 
   -- what `write_lines` leaves

@@ -19,7 +19,8 @@ use Rattle.lines.specs.Text.{is_partial, is_text, is_table, read_text, write_tab
 use Rattle.lines.specs.Refusal.{refused, gives, leaving}
 use Rattle.lines.specs.Calls.{over, conversion}
 use Rattle.lines.specs.Theorems.{LineIsWriting, TextIsWriting, WriteAfterRead, ReadAfterWrite, ReadGives, WriteGives, given_back, WriteCallAfterRead, ReadCallAfterWrite}
-use Rattle.lines.proofs.LineLaws.{row-length, line-length, row_back, row_line, line_row, line-back}
+use Rattle.lines.specs.RecordLaws.{row-length, line-length}
+use Rattle.lines.proofs.LineLaws.{row_back, row_line, line_row, line-back}
 use Rattle.lines.proofs.CallLaws.{Valid, Converted, converted, converted-all, conversion-short, conversion-done}
 use Rattle.lines.proofs.TextLaws.{whole-passes, valid-all, all_valid}
 

@@ -1,8 +1,7 @@
 -- 01, Refusals: the checks of a call, in checking order, and the call's answer by them.
 use Rattle.std.specs.Prelude.{ℕ, Bool, List, [], ◌∷◌, eqb}
 use Rattle.lists.specs.First.{first}
-use Rattle.lines.specs.declared.Refusal.{Refusal}
-use Rattle.lines.specs.Refusal.{Result, refused, gives, no_table, Outcome, leaving}
+use Rattle.lines.specs.Refusal.{Refusal, Result, refused, gives, no_table, Outcome, leaving}
 
 -- A check is the refusal that one test finds: its number, or 0 if it does not apply, and the table that the fault lies in.
 abbrev pub found : (number table : ℕ) → Refusal

@@ -4,7 +4,7 @@ use Rattle.lists.specs.Records.{map_records, all_records}
 use Rattle.lines.specs.Line.{is_row, is_line, write_line, read_line}
 
 -- 01, refusal 1: a text of no bytes or not of whole lines of 19, or a table of no numbers or not of whole lines of 3.
-unfoldable pub is_partial : ℕ → List ℕ → Bool
+unfoldable pub is_partial : {A : Type 0} → ℕ → List A → Bool
 is_partial size t = eqb (length t) 0 || not (eqb (length t % size) 0)
 
 -- A well-written text: at least one line, and each of them well written.

@@ -1,38 +1,36 @@
-// Whether a table is of whole rows, and whether all lines of a text, or all rows of a table, are right.
-ghost use Rattle.std.specs.Prelude.{◌≡◌, ◌*◌, ◌≤◌, length};
+// Whether a text is of whole lines, or a table of whole rows, and whether all of them are right.
+ghost use Rattle.std.specs.Prelude.{◌≡◌, ◌/◌, length};
 ghost use Rattle.lists.specs.Records.{all_records};
-ghost use Rattle.lines.specs.Line.{is_row, is_line};
+ghost use Rattle.lines.specs.Calls.{validation};
+ghost use Rattle.lines.specs.Refusal.{paper_values};
 ghost use Rattle.lines.specs.Text.{is_partial};
 
-use crate::line::{is_line, is_row};
+use crate::record::Record;
+use crate::refusing::{Reason, Refusal, refuse_if};
 
-// Refusal 1 of a table: it is empty, or not a multiple of 3 numbers.
-pub fn is_partial(table: &[u32]) -> bool
-    ensures { result ≡ is_partial 3 table.now }
+// Refusal 1: there is no record, or a part of one is left.
+pub fn is_partial<R: Record>(source: &[R::Item]) -> bool
+    ensures { result ≡ is_partial R.SIZE source.now }
 {
-    (table.len() == 0) | (table.len() % 3 != 0)
+    source.is_empty() | (source.len() % R::SIZE != 0)
 }
 
-// Whether each of the first `lines` lines is well written. A wrong line does not end the loop: that would be one test more a line.
-pub fn are_lines(text: &[u8], lines: usize) -> bool
-    requires { 19 * lines ≤ length text.now }
-    ensures { result ≡ all_records is_line 19 lines text.now }
+// Whether each whole record is right. A wrong one does not end the loop: that would be one test more a record.
+fn are_right<R: Record>(source: &[R::Item]) -> bool
+    ensures { result ≡ all_records R.right R.SIZE (length source.now / R.SIZE) source.now }
 {
     let mut ok = true;
-    for i in 0..lines {
-        ok = ok & is_line(text, 19 * i);
+    for part in source.chunks_exact(R::SIZE) {
+        ok &= R::is_right(part);
     }
     ok
 }
 
-// Whether each of the first `rows` rows can be written, likewise.
-pub fn are_rows(table: &[u32], rows: usize) -> bool
-    requires { 3 * rows ≤ length table.now }
-    ensures { result ≡ all_records is_row 3 rows table.now }
+// Tests a whole text or table of any length: refusal 1, then 3. A success gives the number of records.
+pub fn validate_records<R: Record>(source: &[R::Item]) -> Result<usize, Refusal>
+    ensures { paper_values result ≡ validation R.SIZE R.right source.now }
 {
-    let mut ok = true;
-    for i in 0..rows {
-        ok = ok & is_row(table, 3 * i);
-    }
-    ok
+    refuse_if(is_partial::<R>(source), Reason::WrongLength, None)?;
+    refuse_if(!are_right::<R>(source), Reason::LineIllWritten, None)?;
+    Ok(source.len() / R::SIZE)
 }

@@ -2,110 +2,47 @@
 #![tactic(auto)]
 
 ghost use Rattle.std.specs.Prelude.{◌≡◌};
-ghost use Rattle.lines.specs.Line.{is_row};
+ghost use Rattle.lines.specs.Calls.{validating, reading, writing};
 ghost use Rattle.lines.specs.Refusal.{paper_values, leaving};
-ghost use Rattle.lines.specs.Checks.{found};
-ghost use Rattle.lines.specs.Calls.{validation, validating, reading, writing};
+ghost use Rattle.lines.specs.Text.{is_partial};
 
 pub mod checked;
 mod checking;
 mod line;
 mod number;
+mod record;
+mod refusing;
 mod text;
 
-pub use checking::is_partial;
-use checking::{are_lines, are_rows};
-use text::{read_lines, write_lines};
+use checking::validate_records;
+use record::{Line, Row};
+pub use refusing::{Reason, Refusal, Table, refuse_if};
+use text::convert_records;
 
-// 01's table where the fault lies in none.
-pub const NO_TABLE: u32 = 0;
-
-// Why a call was refused: 01's number, and the table that the fault lies in, 0 where it lies in none.
-#[derive(Clone, Copy)]
-pub struct Refusal {
-    pub number: u32,
-    pub table: u32,
-}
-
-// The number of lines that were found, read or written, or the refusal.
-#[derive(Clone, Copy)]
-pub enum Answer {
-    Lines(usize),
-    Refused(Refusal),
-}
-
-// Number 0 stands for no refusal.
-pub fn refuse(number: u32, table: u32) -> Refusal
-    ensures { result ≡ found number table }
+// Refusal 1 of a table: it is empty, or not a multiple of 3 numbers.
+pub fn is_partial(table: &[u32]) -> bool
+    ensures { result ≡ is_partial 3 table.now }
 {
-    Refusal {
-        number: number,
-        table: table,
-    }
+    checking::is_partial::<Row>(table)
 }
 
-// Tests a whole text of any length: refusal 1, then 3.
-pub fn validate(text: &[u8]) -> Answer
+// Tests a whole text of any length: refusal 1, then 3. A success gives the number of lines.
+pub fn validate(text: &[u8]) -> Result<usize, Refusal>
     ensures { paper_values result ≡ validating text.now }
 {
-    if text.len() == 0 {
-        return Answer::Refused(refuse(1, NO_TABLE));
-    }
-    if text.len() % 19 != 0 {
-        return Answer::Refused(refuse(1, NO_TABLE));
-    }
-    let lines = text.len() / 19;
-    if !are_lines(text, lines) {
-        return Answer::Refused(refuse(3, NO_TABLE));
-    }
-    Answer::Lines(lines)
-}
-
-// Tests a whole table: refusal 1, then 3 for a number above 999,999.
-fn validate_table(table: &[u32]) -> Answer
-    ensures { paper_values result ≡ validation 3 is_row table.now }
-{
-    if table.len() == 0 {
-        return Answer::Refused(refuse(1, NO_TABLE));
-    }
-    if table.len() % 3 != 0 {
-        return Answer::Refused(refuse(1, NO_TABLE));
-    }
-    let rows = table.len() / 3;
-    if !are_rows(table, rows) {
-        return Answer::Refused(refuse(3, NO_TABLE));
-    }
-    Answer::Lines(rows)
+    validate_records::<Line>(text)
 }
 
 // Reads a text into a table. Refusals 1, 3, then 2.
-pub fn read(text: &[u8], table: &mut [u32]) -> Answer
+pub fn read(text: &[u8], table: &mut [u32]) -> Result<usize, Refusal>
     ensures { leaving (paper_values result) table.new ≡ reading text.now table.old }
 {
-    match validate(text) {
-        Answer::Lines(lines) => {
-            if table.len() < 3 * lines {
-                return Answer::Refused(refuse(2, NO_TABLE));
-            }
-            read_lines(text, table, lines);
-            Answer::Lines(lines)
-        }
-        Answer::Refused(refusal) => Answer::Refused(refusal),
-    }
+    convert_records::<Line>(text, table)
 }
 
 // Writes a table as a text. Refusals 1, 3, then 2.
-pub fn write(table: &[u32], text: &mut [u8]) -> Answer
+pub fn write(table: &[u32], text: &mut [u8]) -> Result<usize, Refusal>
     ensures { leaving (paper_values result) text.new ≡ writing table.now text.old }
 {
-    match validate_table(table) {
-        Answer::Lines(rows) => {
-            if text.len() < 19 * rows {
-                return Answer::Refused(refuse(2, NO_TABLE));
-            }
-            write_lines(table, text, rows);
-            Answer::Lines(rows)
-        }
-        Answer::Refused(refusal) => Answer::Refused(refusal),
-    }
+    convert_records::<Row>(table, text)
 }

@@ -1,53 +1,68 @@
 // One line, and the row of three numbers that it shows.
-ghost use Rattle.std.specs.Prelude.{◌≡◌, true, ◌+◌, ◌≤◌, length, drop};
-ghost use Rattle.std.proofs.lemmas.List.Edits.{sets};
+ghost use Rattle.std.specs.Prelude.{◌≡◌, true, ◌≤◌, length};
 ghost use Rattle.lines.specs.Line.{is_row, is_line, read_line, write_line};
 
-use crate::number::{is_number, read_number, write_number};
+use crate::number::{COLUMNS, is_number, read_number, write_number};
 
-// Whether the 19 bytes from `at` are a line.
-pub fn is_line(text: &[u8], at: usize) -> bool
-    requires { at + 19 ≤ length text.now }
-    ensures { result ≡ is_line (drop at text.now) }
+// The bytes of a line, and the numbers of a row.
+pub const LINE: usize = 19;
+
+pub const ROW: usize = 3;
+
+// The greatest number that six columns show.
+const MAX_NUMBER: u32 = 999_999;
+
+// Where the second and the third number of a line begin, and its last byte.
+const SECOND: usize = COLUMNS;
+
+const THIRD: usize = 2 * COLUMNS;
+
+const END: usize = 3 * COLUMNS;
+
+// Whether the first 19 bytes are a line.
+pub fn is_line(line: &[u8]) -> bool
+    requires { 19 ≤ length line.now }
+    ensures { result ≡ is_line line.now }
 {
-    let a = is_number(text, at);
-    let b = is_number(text, at + 6);
-    let c = is_number(text, at + 12);
-    let end = text[at + 18] == 10;
+    let a = is_number(line);
+    let b = is_number(&line[SECOND..]);
+    let c = is_number(&line[THIRD..]);
+    let end = line[END] == 10;
     a & b & c & end
 }
 
-// Whether the three numbers from `at` can be written.
-pub fn is_row(table: &[u32], at: usize) -> bool
-    requires { at + 3 ≤ length table.now }
-    ensures { result ≡ is_row (drop at table.now) }
+// Whether the first three numbers can be written.
+pub fn is_row(row: &[u32]) -> bool
+    requires { 3 ≤ length row.now }
+    ensures { result ≡ is_row row.now }
 {
-    let a = table[at] <= 999999;
-    let b = table[at + 1] <= 999999;
-    let c = table[at + 2] <= 999999;
+    let a = row[0] <= MAX_NUMBER;
+    let b = row[1] <= MAX_NUMBER;
+    let c = row[2] <= MAX_NUMBER;
     a & b & c
 }
 
-// Reads the line at `at` into the three places from `to`.
-pub fn read_line(text: &[u8], at: usize, table: &mut [u32], to: usize)
-    requires at_in_bounds { at + 19 ≤ length text.now }
-    requires text_value { is_line (drop at text.now) ≡ true }
-    requires to_in_bounds { to + 3 ≤ length table.old }
-    ensures { table.new ≡ sets table.old to (read_line (drop at text.now)) }
+// Reads a line into a row.
+pub fn read_line(line: &[u8], row: &mut [u32])
+    requires in_bounds { 19 ≤ length line.now }
+    requires text_value { is_line line.now ≡ true }
+    requires row_length { length row.old ≡ 3 }
+    ensures { row.new ≡ read_line line.now }
 {
-    table[to] = read_number(text, at);
-    table[to + 1] = read_number(text, at + 6);
-    table[to + 2] = read_number(text, at + 12);
+    let a = read_number(line);
+    let b = read_number(&line[SECOND..]);
+    let c = read_number(&line[THIRD..]);
+    row.copy_from_slice(&[a, b, c]);
 }
 
-// Writes the three numbers from `at` as the line at `to`.
-pub fn write_line(table: &[u32], at: usize, text: &mut [u8], to: usize)
-    requires at_in_bounds { at + 3 ≤ length table.now }
-    requires to_in_bounds { to + 19 ≤ length text.old }
-    ensures { text.new ≡ sets text.old to (write_line (drop at table.now)) }
+// Writes a row as a line.
+pub fn write_line(row: &[u32], line: &mut [u8])
+    requires in_bounds { 3 ≤ length row.now }
+    requires line_length { length line.old ≡ 19 }
+    ensures { line.new ≡ write_line row.now }
 {
-    write_number(text, to, table[at]);
-    write_number(text, to + 6, table[at + 1]);
-    write_number(text, to + 12, table[at + 2]);
-    text[to + 18] = 10;
+    write_number(row[0], &mut line[..SECOND]);
+    write_number(row[1], &mut line[SECOND..THIRD]);
+    write_number(row[2], &mut line[THIRD..END]);
+    line[END] = 10;
 }

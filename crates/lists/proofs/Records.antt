@@ -2,8 +2,8 @@
 use mathlib.Core.Path.{◌≡◌, refl, sym, ap, ◌∙◌}
 use mathlib.Core.List.{List, [], ◌∷◌, ◌++◌, append_assoc, append-nil}
 use mathlib.Core.Bool.{Bool, true, ◌&&◌, and-true, and_assoc}
-use Prim.Native.Nat.{ℕ, zero, suc, ◌+◌, ◌*◌, ◌≤◌, ◌<◌}
-use native.Mathlib.Nat.{zero-add, mul-zero, mul-suc, add_comm, not-suc-le-zero, le_of_suc-le-suc}
+use Prim.Native.Nat.{ℕ, zero, suc, ◌+◌, ◌*◌, ◌/◌, ◌≤◌, ◌<◌}
+use native.Mathlib.Nat.{add-div_left, div-eq_of_lt, zero-add, mul-zero, mul-suc, mul-le-mul_left, mul_comm, div-lt_iff_lt-mul, div-mul-le_self, add_comm, not-suc-le-zero, le_of_suc-le-suc}
 use native.Mathlib.Numerals.{add-one}
 use native.Mathlib.Omega.{arith}
 use lib.ListN.{length, drop, get_or, length-append, length-drop, get_or-append}
@@ -30,12 +30,50 @@ module _ {A : Type 0} (test : List A → Bool) (size : ℕ) where
   all-at zero (suc n) t h e = rw mul-zero (left-of (test t) _ e)
   all-at (suc i) (suc n) t h e = rw (drop-drop, next) at (all-at i n (drop size t) (le_of_suc-le-suc h) (right_of (test t) _ e))
 
+  -- a test that all pass
+  pub all-of : ((t : List A) → test t ≡ true) → (n : ℕ) (t : List A) → all_records test size n t ≡ true
+  unfolding all_records
+  all-of e zero t = refl
+  all-of e (suc n) t = rw (e t, all-of e n (drop size t))
+
+  -- a weaker test
+  pub all-imply : (weaker : List A → Bool) → ((t : List A) → test t ≡ true → weaker t ≡ true)
+      → (n : ℕ) (t : List A) → all_records test size n t ≡ true → all_records weaker size n t ≡ true
+  unfolding all_records
+  all-imply weaker imply zero t e = refl
+  all-imply weaker imply (suc n) t e = rw (imply t (left-of (test t) _ e), all-imply weaker imply n (drop size t) (right_of (test t) _ e))
+
   -- the records behind the first k
   pub all-behind : (k n m : ℕ) (t : List A) → n ≡ k + m → all_records test size n t ≡ true → all_records test size m (drop (size * k) t) ≡ true
   unfolding all_records
   all-behind zero n m t q e = let q' : n ≡ m = omega arith in rw (mul-zero, ← q') e
   all-behind (suc k) zero m t q e = let z : ⊥ = omega arith in absurd z
   all-behind (suc k) (suc n) m t q e = rw (drop-drop, next) at (all-behind k n m (drop size t) (omega arith) (right_of (test t) _ e))
+
+-- there is room for record i of n
+pub record-room : (size i n len : ℕ) → i < n → size * n ≤ len → size * i + size ≤ len
+record-room size i n len h l = omega (arith, mul-suc size i, mul-le-mul_left {m = suc i} {n = n} size h)
+
+-- whether there is room for n records, by how many have room
+pub room-none : (size n len : ℕ) → 0 < size → len / size < n → len < size * n
+room-none size n len some h = rw (mul_comm size n) ((div-lt_iff_lt-mul some).0 h)
+
+pub room-there : (size n len : ℕ) → 0 < size → n ≤ len / size → size * n ≤ len
+room-there size n len some h = omega (arith, mul-le-mul_left {m = n} {n = len / size} size h, div-mul-le_self len size, mul_comm size (len / size))
+
+-- a loop over whole chunks, where a record looks no further than its end: `rest` is what is left
+module _ {A : Type 0} (test : List A → Bool) (size : ℕ) (some : 0 < size) where
+  pub all-chunk : ((t r : List A) → size ≤ length t → test (t ++ r) ≡ test t) → (x rest : List A) → length x ≡ size
+      → all_records test size (length (x ++ rest) / size) (x ++ rest) ≡ test x && all_records test size (length rest / size) rest
+  unfolding all_records
+  all-chunk near x rest e =
+      let more : length (x ++ rest) / size ≡ suc (length rest / size) =
+      ap (λ (n : ℕ). n / size) (length-append x rest ∙ ap (λ (n : ℕ). n + length rest) e) ∙ add-div_left (length rest) some ∙ add-one (length rest / size) in
+      rw (more, near x rest (omega arith), drop_at x rest size e)
+
+  pub all-end : (rest : List A) → length rest < size → all_records test size (length rest / size) rest ≡ true
+  unfolding all_records
+  all-end rest h = rw (div-eq_of_lt h)
 
 module _ {A B : Type 0} (make : List A → List B) (size width : ℕ) (wide : (t : List A) → length (make t) ≡ width) where
   pub map-length : (n : ℕ) (t : List A) → length (map_records make size n t) ≡ width * n

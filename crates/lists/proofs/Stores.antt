@@ -1,12 +1,13 @@
 -- Stores in a row. Assumes nothing.
-use mathlib.Core.Path.{◌≡◌, ◌∙◌}
-use mathlib.Core.List.{List, [], ◌∷◌, ◌++◌, append-nil}
+use mathlib.Core.Path.{◌≡◌, sym, ap, ◌∙◌}
+use mathlib.Core.List.{List, [], ◌∷◌, ◌++◌, append-nil, append_assoc}
 use Prim.Native.Nat.{ℕ, suc, ◌+◌, ◌≤◌}
 use native.Mathlib.Nat.{add-zero, add-suc, suc-add, not-suc-le-zero, le_of_suc-le-suc}
 use native.Mathlib.Numerals.{add-one}
 use native.Mathlib.Omega.{arith}
-use lib.ListN.{length, drop, length-append}
-use lib.Seq.{sets, set_at, append_snoc}
+use lib.ListN.{length, take, drop, length-append, length-drop, take-append-drop}
+use lib.Seq.{sets, set_at, append_snoc, drop-drop, length-take-le}
+use borrow.Rule.Slice.PartMut.{put_mid}
 
 -- the places of a few stores in a row
 pub add-two : (n : ℕ) → n + 2 ≡ suc (suc n)
@@ -37,3 +38,10 @@ module _ {A : Type 0} where
   sets_behind p (v ∷ vs) (x ∷ q) n e h =
       let e' : length (p ++ (v ∷ [])) ≡ suc n = length-append p (v ∷ []) ∙ rw (e, add-one) in
       rw (set_at p x q v n e, ← append_snoc p v q) (sets_behind (p ++ (v ∷ [])) vs q (suc n) e' (le_of_suc-le-suc h) ∙ rw (append_snoc p v vs))
+
+  -- the k elements from i on, written as a slice of their own
+  pub put_mid-sets : (i k : ℕ) (xs ys : List A) → i + k ≤ length xs → length ys ≡ k → put_mid i k xs ys ≡ sets xs i ys
+  put_mid-sets i k xs ys h e =
+      let room : length ys ≤ length (drop i xs) = rw length-drop (omega arith) in
+      sym (ap (λ (l : List A). sets l i ys) (sym (take-append-drop i xs)) ∙ sets_behind (take i xs) ys (drop i xs) i (length-take-le i xs (omega arith)) room
+      ∙ rw (e, drop-drop, append_assoc))

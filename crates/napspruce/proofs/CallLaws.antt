@@ -7,7 +7,7 @@ use Prim.Native.Nat.{ℕ, ◌+◌, ◌*◌, ◌/◌, ◌≤◌}
 use native.Mathlib.Decide.{dec_lt}
 use native.Mathlib.Omega.{arith}
 use lib.Dec.{ltb}
-use lib.ListN.{length, take, drop, get_or, replicate, length-append, length-replicate}
+use lib.ListN.{length, take, get_or, replicate, length-replicate}
 use lib.Seq.{length-take-le, take_all}
 use borrow.Author.Tests.{le-ltb}
 use Rattle.lines.specs.Text.{is_partial, read_text, write_table}
@@ -24,7 +24,8 @@ use Rattle.circuit.proofs.EncodingLaws.{encode-lines-length}
 use Rattle.rules.specs.RuleRefusal.{rules_refusal, rules_table}
 use Rattle.rules.specs.SiteTable.{site_count, max_sites, sites_refusal, sites_table}
 use Rattle.rewriting.specs.Run.{final_state, all_verdicts}
-use Rattle.rewriting.specs.RewriteCall.{Lent, outcome_of, are_short, done_values, table_checks, rewrite_checks, rewriting}
+use Rattle.rewriting.specs.declared.Rewriting.{Rewriting}
+use Rattle.rewriting.specs.RewriteCall.{Lent, values_of, outcome_of, are_short, done_values, table_checks, rewrite_checks, rewriting}
 use Rattle.rewriting.proofs.CallLaws.{rewriting-given}
 use Rattle.rewriting.proofs.Theorems.{success-is-safe}
 use Rattle.napspruce.specs.declared.numbers.Summary.{Summary}
@@ -55,7 +56,8 @@ module _ (c r s : List ℕ) (pc : is_partial 3 c ≡ false) (pr : is_partial 3 r
 
   front-checks : table_checks c' r' s' ≡ table_checks c r s
   front-checks =
-      ap (λ k. found k circuit_table ∷ found (rules_refusal r') rules_table ∷ found (sites_refusal s') sites_table ∷ []) (alike-number refusal c' c (circuit-alike c pc))
+      ap (λ k. found k circuit_table ∷ found (rules_refusal r') rules_table ∷ found (sites_refusal s') sites_table ∷ [])
+      (alike-number refusal c' c (circuit-alike c pc))
       ∙ ap₂ (λ j k. found (refusal c) circuit_table ∷ found j rules_table ∷ found k sites_table ∷ [])
       (alike-number rules_refusal r' r (rules-alike r pr)) (alike-number sites_refusal s' s (sites-alike s ps))
 
@@ -72,7 +74,8 @@ front-is-listed-alike c r s pc pr ps =
 
 -- ---- by the call `rewrite`, on tables of whole lines and buffers with room
 
-pub listed-refused : (circuit rules sites result work verdicts : List ℕ) → is_partial 3 circuit ≡ false → is_partial 3 rules ≡ false → is_partial 3 sites ≡ false
+pub listed-refused : (circuit rules sites result work verdicts : List ℕ)
+    → is_partial 3 circuit ≡ false → is_partial 3 rules ≡ false → is_partial 3 sites ≡ false
     → are_short result work verdicts ≡ false → (number table : ℕ) → (rewriting circuit rules sites result work verdicts).answer ≡ refused number table
     → (buffer : List ℕ) → leaving (refused number table) buffer ≡ tables_outcome circuit rules sites buffer
 unfolding rewriting
@@ -80,7 +83,8 @@ listed-refused circuit rules sites result work verdicts pc pr ps room number tab
     let ks = rewrite_checks circuit rules sites result work verdicts in
     let (q, some) = answer-turned ks _ number table e in
     let p : Passed (take 4 ks) = (check-passes _ 1 _ pc, (check-passes _ 1 _ pr, (check-passes _ 1 _ ps, (check-passes _ 2 _ room, tt)))) in
-    outcome-refused (table_checks circuit rules sites) _ buffer _ (found number table) (q ∙ found-behind (table_checks circuit rules sites) (take 4 ks) p) some
+    outcome-refused (table_checks circuit rules sites) _ buffer _ (found number table)
+    (q ∙ found-behind (table_checks circuit rules sites) (take 4 ks) p) some
 
 -- what a success leaves: the listing's numbers, in parts
 pub record Rewrote (circuit rules sites table verdicts : List ℕ) (lines : ℕ) (s : Summary) : Type 0 where
@@ -88,60 +92,74 @@ pub record Rewrote (circuit rules sites table verdicts : List ℕ) (lines : ℕ)
   pub numbers : listing_lines (take (3 * lines) table) s (take s.sites verdicts) ≡ listing_table circuit rules sites
   pub line-limit : lines ≤ max_lines
   pub site-limit : s.sites ≤ max_sites
+  -- each site has its verdict in a buffer for the most that there can be
+  pub there : s.sites ≤ length verdicts
+  pub each : length (take s.sites verdicts) ≡ s.sites
 
-pub rewrote : (circuit rules sites result work verdicts table rest given : List ℕ) (lines d₀ n₀ d₁ n₁ kept : ℕ)
-    → outcome_of (gives (lines ∷ d₀ ∷ n₀ ∷ d₁ ∷ n₁ ∷ kept ∷ [])) table rest given ≡ rewriting circuit rules sites result work verdicts
-    → Rewrote circuit rules sites table given lines
-    (record { old = record { depth = d₀; critical = n₀ }; new = record { depth = d₁; critical = n₁ }; sites = site_count sites; kept = kept })
+-- the summary's numbers among those of a success
+abbrev summary_by : (count : ℕ) (values : List ℕ) → Summary
+summary_by count values =
+    record {
+      old = record { depth = get_or values 1 0; critical = get_or values 2 0 };
+      new = record { depth = get_or values 3 0; critical = get_or values 4 0 };
+      sites = count;
+      kept = get_or values 5 0;
+    }
+
+pub rewrote : (circuit rules sites result work verdicts table rest given : List ℕ) (done : Rewriting) → length given ≡ max_sites
+    → outcome_of (gives (values_of done)) table rest given ≡ rewriting circuit rules sites result work verdicts
+    → Rewrote circuit rules sites table given done.lines
+    (record { old = done.old; new = done.new; sites = site_count sites; kept = done.kept })
 unfolding done_values listing_table
-rewrote circuit rules sites result work verdicts table rest given lines d₀ n₀ d₁ n₁ kept q =
+rewrote circuit rules sites result work verdicts table rest given done room q =
     let e = ap (λ x. x.answer) (sym q) in
-    let (a, b, c, v, o) = rewriting-given circuit rules sites result work verdicts _ e in
+    let (a, b, c, values, o) = rewriting-given circuit rules sites result work verdicts _ e in
     let (w, wr, ws, v', safe) = success-is-safe circuit rules sites result work verdicts _ e in
     let final = (final_state circuit rules sites).circuit in
-    let l : lines ≡ line_count final = ap (λ x. get_or x 0 0) v in
+    let l : done.lines ≡ line_count final = ap (λ x. get_or x 0 0) values in
     let left = ap (λ x. x.buffers) q ∙ o in
     let t : table ≡ _ = ap (λ (x : Lent). x.result) left in
     let g : given ≡ _ = ap (λ (x : Lent). x.verdicts) left in
-    let circuit_lines : take (3 * lines) table ≡ encode final =
-    ap (take (3 * lines)) t ∙ over-take (encode final) result (3 * lines) (encode-lines-length final ∙ ap (λ k. 3 * k) (sym l)) in
+    let circuit_lines : take (3 * done.lines) table ≡ encode final =
+    ap (take (3 * done.lines)) t ∙ over-take (encode final) result (3 * done.lines) (encode-lines-length final ∙ ap (λ k. 3 * k) (sym l)) in
     let verdict_bytes : take (site_count sites) given ≡ all_verdicts circuit rules sites =
     ap (take (site_count sites)) g ∙ over-take (all_verdicts circuit rules sites) verdicts (site_count sites) safe.verdict-each in
-    let s : record { old = record { depth = d₀; critical = n₀ }; new = record { depth = d₁; critical = n₁ }; sites = site_count sites; kept = kept } ≡ summary_of circuit rules sites = cc in
+    let s : record { old = done.old; new = done.new; sites = site_count sites; kept = done.kept } ≡ summary_of circuit rules sites =
+    ap (summary_by (site_count sites)) values in
     record {
       accepted = (a, (b, (c, tt)));
-      numbers = ap₂ (λ x y. listing_lines x y (take (site_count sites) given)) circuit_lines s ∙ ap (λ x. listing_lines (encode final) (summary_of circuit rules sites) x) verdict_bytes;
+      numbers =
+          ap₂ (λ x y. listing_lines x y (take (site_count sites) given)) circuit_lines s
+          ∙ ap (λ x. listing_lines (encode final) (summary_of circuit rules sites) x) verdict_bytes;
       line-limit = omega (arith, l, lines-limit final safe.well-formed);
       site-limit = ws.count-limit;
+      there = omega (arith, ws.count-limit, room);
+      each = length-take-le (site_count sites) given (omega (arith, ws.count-limit, room));
     }
 
-pub listed-done : (circuit rules sites buffer table verdicts : List ℕ) (lines : ℕ) (s : Summary) → Rewrote circuit rules sites table verdicts lines s → (n : ℕ) (after : List ℕ)
+pub listed-done : (circuit rules sites buffer table verdicts : List ℕ) (lines : ℕ) (s : Summary)
+    → Rewrote circuit rules sites table verdicts lines s → (n : ℕ) (after : List ℕ)
     → n ≡ length (write_table (listing_lines (take (3 * lines) table) s (take s.sites verdicts)))
     → after ≡ over (write_table (listing_lines (take (3 * lines) table) s (take s.sites verdicts))) buffer
     → leaving (gives (n ∷ [])) after ≡ tables_outcome circuit rules sites buffer
 listed-done circuit rules sites buffer table verdicts lines s w n after l e =
     let t = ap write_table w.numbers in
-    outcome-gives (table_checks circuit rules sites) _ buffer _ w.accepted _ _ (ap (λ k. gives (k ∷ [])) (l ∙ ap length t)) (e ∙ ap (λ x. over x buffer) t)
+    outcome-gives (table_checks circuit rules sites) _ buffer _ w.accepted _ _
+    (ap (λ k. gives (k ∷ [])) (l ∙ ap length t)) (e ∙ ap (λ x. over x buffer) t)
 
 -- the buffers that are lent to it have room
 pub enough-room : (m n k : ℕ) → max_table ≤ m → max_table ≤ n → max_sites ≤ k → are_short (replicate m 0) (replicate n 0) (replicate k 0) ≡ false
-enough-room m n k a b c = rw (length-replicate {A = ℕ} m 0, length-replicate {A = ℕ} n 0, length-replicate {A = ℕ} k 0, le-ltb m max_table a, le-ltb n max_table b, le-ltb k max_sites c)
+enough-room m n k a b c =
+    rw (
+      length-replicate {A = ℕ} m 0,
+      length-replicate {A = ℕ} n 0,
+      length-replicate {A = ℕ} k 0,
+      le-ltb m max_table a,
+      le-ltb n max_table b,
+      le-ltb k max_sites c,
+    )
 
 -- ---- of texts
-
--- a buffer d with the numbers that were read of a text in front, and n is where they end
-module _ (numbers old d : List ℕ) (n : ℕ) (h : n ≡ length numbers) (e : d ≡ over numbers old) where
-  pub numbers_fit : n ≤ length d
-  numbers_fit = omega (arith, ap length e ∙ length-append numbers (drop (length numbers) old))
-
-  pub numbers-count : n ≡ length (take n d)
-  numbers-count = sym (length-take-le n d numbers_fit)
-
-  pub numbers-read : take n d ≡ numbers
-  numbers-read = ap (take n) e ∙ over-take numbers old n (sym h)
-
-  pub numbers-whole : is_partial 3 numbers ≡ false → is_partial 3 (take n d) ≡ false
-  numbers-whole w = ap (is_partial 3) numbers-read ∙ w
 
 -- what is read of a text is whole lines, at least one
 pub text-whole : (text : List ℕ) → text_refusal text ≡ 0 → is_partial 3 (read_text text) ≡ false
@@ -152,11 +170,14 @@ text-whole text h =
 pub front-whole : (most : ℕ) (text : List ℕ) → text_refusal text ≡ 0 → is_partial 3 (front most (read_text text)) ≡ false
 front-whole most text h =
     elim (dec_lt (3 * (most + 1)) (length (read_text text))) [
-      | yes l ↦ whole-passes 3 (most + 1) (front most (read_text text)) (omega arith) (length-take-le (3 * (most + 1)) (read_text text) (omega arith)) (omega arith)
+      | yes l ↦
+          whole-passes 3 (most + 1) (front most (read_text text)) (omega arith)
+          (length-take-le (3 * (most + 1)) (read_text text) (omega arith)) (omega arith)
       | no l ↦ ap (is_partial 3) (take_all (3 * (most + 1)) (read_text text) (omega arith)) ∙ text-whole text h
     ]
 
-pub fronts-listed : (circuit rules sites buffer : List ℕ) → text_refusal circuit ≡ 0 → text_refusal rules ≡ 0 → text_refusal sites ≡ 0 → (c r s : List ℕ)
+pub fronts-listed : (circuit rules sites buffer : List ℕ) → text_refusal circuit ≡ 0 → text_refusal rules ≡ 0 → text_refusal sites ≡ 0
+    → (c r s : List ℕ)
     → c ≡ shortened (read_text circuit) → r ≡ front max_rules_lines (read_text rules) → s ≡ front max_sites_lines (read_text sites)
     → tables_outcome c r s buffer ≡ tables_outcome (read_text circuit) (read_text rules) (read_text sites) buffer
 fronts-listed circuit rules sites buffer hc hr hs c r s ec er es =

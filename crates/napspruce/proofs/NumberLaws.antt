@@ -4,8 +4,8 @@ use mathlib.Core.List.{List, [], ◌∷◌, ◌++◌}
 use Prim.Native.Nat.{ℕ, suc, ◌+◌, ◌*◌, ◌≤◌, ◌<◌}
 use native.Mathlib.Numerals.{add-one}
 use native.Mathlib.Omega.{arith}
-use lib.ListN.{length, take, drop, get_or, drop_of_length-le}
-use lib.Seq.{sets, drop-cons, get_or-take}
+use lib.ListN.{length, drop, get_or, drop_of_length-le}
+use lib.Seq.{sets, drop-cons}
 use Rattle.lists.proofs.Stores.{sets-append}
 use Rattle.lists.proofs.Appended.{Appended, appended-none, appended-more, appended-all}
 use Rattle.napspruce.specs.declared.numbers.Summary.{Summary}
@@ -56,7 +56,3 @@ module _ (verdicts d₀ : List ℕ) (from : ℕ) where
     verdicts-all h =
         (appended-all (verdict_lines 1 verdicts) d₀ from (verdict_lines (i + 1) (drop i verdicts)) d (from + 3 * i) s
         (ap (verdict_lines (i + 1)) (drop_of_length-le verdicts h) ∙ no-verdicts (i + 1))).0
-
--- the first `count` of the verdicts in a buffer
-pub first-verdict : (verdicts : List ℕ) (count i : ℕ) → i < count → get_or verdicts i 0 ≡ get_or (take count verdicts) i 0
-first-verdict verdicts count i h = sym (get_or-take count verdicts i 0 h)

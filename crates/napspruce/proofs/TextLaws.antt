@@ -1,32 +1,35 @@
 -- Texts: their refusals, and the table that is read of a text's first lines. Assumes nothing.
 use mathlib.Core.Path.{◌≡◌, refl, sym, ap, ap₂, ◌∙◌}
-use mathlib.Core.Bool.{Bool, true, false, not}
-use mathlib.Core.List.{List, [], ◌∷◌, ◌++◌, append-nil, append_assoc}
-use Prim.Native.Nat.{ℕ, ◌+◌, ◌-◌, ◌*◌, ◌/◌, ◌≤◌, ◌<◌}
+use mathlib.Core.Bool.{true, not}
+use mathlib.Core.List.{List, [], ◌∷◌, ◌++◌, append_assoc}
+use Prim.Native.Nat.{ℕ, min, ◌+◌, ◌-◌, ◌*◌, ◌/◌, ◌≤◌, ◌<◌}
 use native.Mathlib.Decide.{dec_lt}
 use native.Mathlib.Omega.{arith}
 use lib.Dec.{ltb}
-use lib.ListN.{length, take, drop, length-append, length-drop, take-append-drop, drop_of_length-le}
-use lib.Seq.{sets, take_all, length-take-le}
-use borrow.Author.Tests.{ltb-true, ltb-false}
+use lib.ListN.{length, take, drop, length-append, length-drop}
+use lib.Seq.{take_all, take_at, length-take-le}
+use borrow.Author.Tests.{lt-ltb, le-ltb}
+use Rattle.std.specs.Prelude.{Option, Result as Returned, Ok, Err, IsErrAnd, MatchResult}
+use Rattle.std.proofs.lemmas.Result.{err_from_is_err_and}
 use Rattle.lists.specs.First.{first}
 use Rattle.lists.specs.Records.{map_records, all_records}
-use Rattle.lists.proofs.Stores.{sets_behind}
 use Rattle.lines.specs.Number.{read_number, is_number}
 use Rattle.lines.specs.Line.{is_line, read_line}
 use Rattle.lines.specs.Text.{read_text}
-use Rattle.lines.specs.Refusal.{refused, gives}
+use Rattle.lines.specs.declared.refusing.Refusal.{Refusal as GivenRefusal}
+use Rattle.lines.specs.declared.refusing.Table.{Table}
+use Rattle.lines.specs.Refusal.{refused, gives, reason_number, table_number, found_by, paper_values}
+use Rattle.lines.specs.Checks.{found, first_found}
 use Rattle.lines.specs.Calls.{over, line_checks, validation, validating}
-use Rattle.lines.proofs.CheckLaws.{check-passes, passed, none_found, answer-given, answer-turned}
+use Rattle.lines.proofs.CheckLaws.{check-passes, found_here, found-later, found_none, passed, none_found, reason-some, answer-given, answer-turned}
 use Rattle.lines.proofs.CallLaws.{Valid, valid-passed}
-use Rattle.lines.proofs.TextLaws.{front-right, front_length, front_read, front-valid, front_reads, behind-right, behind-numbers, first-right, first-number, numbers-length}
+use Rattle.lines.proofs.TextLaws.{front-valid, front_reads, behind-right, behind-numbers, first-right, first-number, numbers-length}
 use Rattle.circuit.specs.Circuit.{max_inputs, start_kind}
 use Rattle.circuit.specs.Table.{start_run, starts, gates_from}
 use Rattle.circuit.proofs.StartRunLaws.{run_step, run-stop, run_end, run_fits}
-use Rattle.circuit.proofs.BufferLaws.{over-behind}
+use Rattle.circuit.proofs.BufferLaws.{over-take}
 use Rattle.napspruce.specs.ListingCall.{text_refusal}
 use Rattle.napspruce.specs.Front.{front, cut, starts_read, rest_read, shortened}
-use Rattle.napspruce.proofs.ShortenedLaws.{read-le}
 
 -- ---- refusals
 
@@ -41,13 +44,22 @@ module _ (text : List ℕ) where
       let right : all_records is_line 19 (length text / 19) text ≡ true = rw (← v.whole.count) v.right in
       none_found (line_checks 19 is_line text) (check-passes _ 1 _ v.not-partial, (check-passes _ 3 _ (ap not right), tt))
 
-  pub text-valid : (n : ℕ) → validating text ≡ gives (n ∷ []) → 0 ≡ text_refusal text
+  text-valid : (n : ℕ) → validating text ≡ gives (n ∷ []) → 0 ≡ text_refusal text
   unfolding text_refusal validation
   text-valid n e = sym (none_found (line_checks 19 is_line text) (answer-given (line_checks 19 is_line text) _ _ e).0)
 
-  pub text-refused : (k t : ℕ) → validating text ≡ refused k t → k ≡ text_refusal text
+  text-refused : (k t : ℕ) → validating text ≡ refused k t → k ≡ text_refusal text
   unfolding text_refusal validation
   text-refused k t e = ap (λ r. r.number) (answer-turned (line_checks 19 is_line text) _ k t e).0
+
+  -- Its own refusal is that of the table that is to be read of it, which `map_err` names.
+  pub text-checked : (w r : Returned ℕ GivenRefusal) (table : Option Table)
+      → MatchResult w (λ n. r ≡ Ok n) (λ e. IsErrAnd r (λ d. d ≡ record { reason = e.reason; table = table }))
+      → paper_values w ≡ validating text → found_by r ≡ first_found (found (text_refusal text) (table_number table) ∷ [])
+  text-checked (Ok n) r table made told = found-later _ _ [] _ 0 (text-valid n (sym told)) refl (ap found_by made ∙ found_none)
+  text-checked (Err e) r table made told =
+      let p = err_from_is_err_and r made in
+      found_here _ _ [] _ (reason_number e.reason) (text-refused _ _ (sym told)) (reason-some e.reason) (ap found_by (p.1 ∙ ap Err p.2))
 
 -- ---- a text that is cut
 
@@ -72,42 +84,14 @@ module _ (most : ℕ) (text : List ℕ) (h : text_refusal text ≡ 0) where
         | no l ↦ front_reads text _ valid-whole (most + 1) (omega arith) (omega arith)
       ]
 
--- ---- reading at most `most` lines
-
-module _ (text : List ℕ) (most count : ℕ) (h : text_refusal text ≡ 0) (c : count ≡ first (ltb (length text / 19) most) (length text / 19) most) where
-  valid : Valid 19 is_line text (length text / 19)
-  valid = accepted-text text h
-
-  fewer : (count ≤ most) × (count ≤ length text / 19)
-  fewer = go (ltb (length text / 19) most) refl c
-    where
-      go : (b : Bool) → ltb (length text / 19) most ≡ b → count ≡ first b (length text / 19) most → (count ≤ most) × (count ≤ length text / 19)
-      go true e q = let l : length text / 19 < most = ltb-true _ _ e in (omega arith, omega arith)
-      go false e q = let l : most ≤ length text / 19 = ltb-false _ _ e in (omega arith, omega arith)
-
-  -- the lines that are read are there, and right
-  pub front-lines : (count ≤ most) × (19 * count ≤ length text) × (all_records is_line 19 count text ≡ true)
-  front-lines = (fewer.0, omega (arith, fewer, valid.whole.long), front-right text _ valid count fewer.1)
-
-  front_same : take (3 * count) (read_text text) ≡ take (3 * most) (read_text text)
-  front_same = go (ltb (length text / 19) most) refl c
-    where
-      go : (b : Bool) → ltb (length text / 19) most ≡ b → count ≡ first b (length text / 19) most
-          → take (3 * count) (read_text text) ≡ take (3 * most) (read_text text)
-      go true e q =
-          let l : length text / 19 < most = ltb-true _ _ e in
-          let m = numbers-length text _ valid in
-          take_all (3 * count) (read_text text) (omega arith) ∙ sym (take_all (3 * most) (read_text text) (omega arith))
-      go false e q = ap (λ j. take (3 * j) (read_text text)) q
-
-  pub front-numbers : 3 * count ≡ length (take (3 * most) (read_text text))
-  front-numbers = sym (ap length (sym front_same) ∙ front_length text _ valid count fewer.1)
-
-  pub front-is-read : (table after : List ℕ) → after ≡ map_records read_line 19 count text ++ drop (3 * count) table
-      → after ≡ over (take (3 * most) (read_text text)) table
-  front-is-read table after e = front_read text _ valid count fewer.1 table after e ∙ ap (λ x. over x table) front_same
-
 -- ---- a circuit's text
+
+min-first : (a b : ℕ) → min a b ≡ first (ltb a b) a b
+min-first a b =
+    elim (dec_lt a b) [
+      | yes l ↦ rw (lt-ltb a b l) (omega arith)
+      | no l ↦ rw (le-ltb a b (omega arith)) (omega arith)
+    ]
 
 -- its starting lines are counted, and line i is next
 abbrev pub StartsTo : (text : List ℕ) (i : ℕ) → Type 0
@@ -146,13 +130,9 @@ module _ (text : List ℕ) (h : text_refusal text ≡ 0) where
     starts-end l = omega (arith, s.0, s.2, run_end t (3 * i) (omega (arith, numbers-long)))
 
   -- lines from line k on, of which at most `most` are read
-  module _ (k most count : ℕ) (there : 3 * k ≤ length t) (c : count ≡ first (ltb (lines - k) most) (lines - k) most) where
+  module _ (k most count : ℕ) (there : 3 * k ≤ length t) (c : count ≡ min most (lines - k)) where
     some-lines : (count ≤ most) × (k + count ≤ lines)
-    some-lines = go (ltb (lines - k) most) refl c
-      where
-        go : (b : Bool) → ltb (lines - k) most ≡ b → count ≡ first b (lines - k) most → (count ≤ most) × (k + count ≤ lines)
-        go true e q = let l : lines - k < most = ltb-true _ _ e in (omega arith, omega (arith, numbers-long))
-        go false e q = let l : most ≤ lines - k = ltb-false _ _ e in (omega arith, omega (arith, numbers-long))
+    some-lines = (omega (arith, c), omega (arith, c, there, numbers-long))
 
     pub behind-lines : (count ≤ most) × (19 * k ≤ length text) × (19 * count ≤ length (drop (19 * k) text)) × (all_records is_line 19 count (drop (19 * k) text) ≡ true)
     behind-lines = (
@@ -163,14 +143,13 @@ module _ (text : List ℕ) (h : text_refusal text ≡ 0) where
     )
 
     behind-same : take (3 * count) (drop (3 * k) t) ≡ take (3 * most) (drop (3 * k) t)
-    behind-same = go (ltb (lines - k) most) refl c
-      where
-        go : (b : Bool) → ltb (lines - k) most ≡ b → count ≡ first b (lines - k) most → take (3 * count) (drop (3 * k) t) ≡ take (3 * most) (drop (3 * k) t)
-        go true e q =
-            let l : lines - k < most = ltb-true _ _ e in
-            let n : length (drop (3 * k) t) ≡ 3 * (lines - k) = length-drop (3 * k) t ∙ omega (arith, numbers-long) in
-            take_all (3 * count) (drop (3 * k) t) (omega arith) ∙ sym (take_all (3 * most) (drop (3 * k) t) (omega arith))
-        go false e q = ap (λ j. take (3 * j) (drop (3 * k) t)) q
+    behind-same =
+        elim (dec_lt (lines - k) most) [
+          | yes l ↦
+              let n : length (drop (3 * k) t) ≡ 3 * (lines - k) = length-drop (3 * k) t ∙ omega (arith, numbers-long) in
+              take_all (3 * count) (drop (3 * k) t) (omega (arith, c)) ∙ sym (take_all (3 * most) (drop (3 * k) t) (omega arith))
+          | no l ↦ let e : count ≡ most = omega (arith, c) in ap (λ j. take (3 * j) (drop (3 * k) t)) e
+        ]
 
     pub behind-count : 3 * count ≡ length (take (3 * most) (drop (3 * k) t))
     behind-count =
@@ -180,49 +159,32 @@ module _ (text : List ℕ) (h : text_refusal text ≡ 0) where
     pub behind-lent : take (length text - 19 * k) (drop (19 * k) text) ≡ drop (19 * k) text
     behind-lent = take_all (length text - 19 * k) (drop (19 * k) text) (omega (arith, length-drop (19 * k) text))
 
-    -- put into a table from place `to` on, the part behind it being lent
-    pub behind-stores : (table part : List ℕ) (to : ℕ) → to + 3 * most ≤ length table
-        → part ≡ map_records read_line 19 count (take (length text - 19 * k) (drop (19 * k) text)) ++ drop (3 * count) (take (length table - to) (drop to table))
-        → take to table ++ (part ++ drop (length table - to) (drop to table)) ≡ sets table to (take (3 * most) (drop (3 * k) t))
-    behind-stores table part to room e =
-        let x = take (3 * most) (drop (3 * k) t) in
-        let lent : take (length table - to) (drop to table) ≡ drop to table = take_all (length table - to) (drop to table) (omega (arith, length-drop to table)) in
-        let end : length (drop to table) ≤ length table - to = omega (arith, length-drop to table) in
-        let none : drop (length table - to) (drop to table) ≡ [] = drop_of_length-le (drop to table) end in
-        let new : part ≡ x ++ drop (length x) (drop to table) =
-        e ∙ ap₂ (λ y z. map_records read_line 19 count y ++ drop (3 * count) z) behind-lent lent
-        ∙ ap₂ (λ y j. y ++ drop j (drop to table)) (behind-numbers text lines valid-lines k count some-lines.1 ∙ behind-same) behind-count in
-        ap₂ (λ y z. take to table ++ (y ++ z)) new none
-        ∙ ap (λ y. take to table ++ y) (append-nil (x ++ drop (length x) (drop to table)))
-        ∙ sym (append_assoc (take to table) x (drop (length x) (drop to table)))
-        ∙ sym (sets_behind (take to table) x (drop to table) to (length-take-le to table (omega arith)) (omega (arith, length-drop to table, behind-count, some-lines.0)))
-        ∙ ap (λ l. sets l to x) (take-append-drop to table)
+    -- what `read_lines` leaves of it
+    pub behind-read : (table after : List ℕ)
+        → after ≡ map_records read_line 19 count (take (length text - 19 * k) (drop (19 * k) text)) ++ drop (3 * count) table
+        → after ≡ over (take (3 * most) (drop (3 * k) t)) table
+    behind-read table after e =
+        e ∙ ap₂ (λ y j. map_records read_line 19 count y ++ drop j table) behind-lent behind-count
+        ∙ ap (λ x. x ++ drop (length (take (3 * most) (drop (3 * k) t))) table) (behind-numbers text lines valid-lines k count some-lines.1 ∙ behind-same)
 
   -- the two parts together: n starting lines, of which k are read
-  module _ (n k : ℕ) (e : n ≡ starts t) (f : k ≡ first (ltb n (max_inputs + 1)) n (max_inputs + 1)) where
-    starts_fit : 3 * (1 + n) ≤ length t
+  module _ (n k : ℕ) (e : n ≡ starts t) (f : k ≡ min n (max_inputs + 1)) where
+    pub starts_fit : 3 * (1 + n) ≤ length t
     starts_fit = omega (arith, e, run_fits (drop 3 t), length-drop 3 t, numbers-long, valid-lines.whole.some)
 
-    few : (k ≤ n) × (k ≤ max_inputs + 1)
-    few = rw f (read-le n)
+    parts : take (3 * (1 + k)) t ++ take (3 * rest_read) (drop (3 * (1 + n)) t) ≡ shortened t
+    parts =
+        let p : 3 * (1 + n) ≡ gates_from t = omega (arith, e) in
+        ap₂ (λ i j. take (3 * (1 + i)) t ++ take (3 * rest_read) (drop j t)) (f ∙ min-first n (max_inputs + 1) ∙ ap starts_read e) p
 
-    pub parts-fit : (3 * (1 + n) ≤ length t) × (k ≤ max_inputs + 1)
-    parts-fit = (starts_fit, few.1)
-
-    pub front-end : (end : ℕ) → end ≡ length (take (3 * (1 + k)) t) → end ≡ 3 * (1 + k)
-    front-end end q = q ∙ length-take-le (3 * (1 + k)) t (omega (arith, starts_fit, few))
-
-    module _ (end rest : ℕ) (q : end ≡ length (take (3 * (1 + k)) t)) (r : 3 * rest ≡ length (take (3 * rest_read) (drop (3 * (1 + n)) t))) where
-      parts : take (3 * (1 + k)) t ++ take (3 * rest_read) (drop (3 * (1 + n)) t) ≡ shortened t
-      parts =
-          let p : 3 * (1 + n) ≡ gates_from t = omega (arith, e) in
-          ap₂ (λ i j. take (3 * (1 + i)) t ++ take (3 * rest_read) (drop j t)) (f ∙ ap starts_read e) p
-
-      pub parts-end : end + 3 * rest ≡ length (shortened t)
-      parts-end = ap₂ ◌+◌ q r ∙ sym (length-append (take (3 * (1 + k)) t) (take (3 * rest_read) (drop (3 * (1 + n)) t))) ∙ ap length parts
-
-      pub parts-over : (table d d' : List ℕ) → end + 3 * rest ≤ length table → d ≡ over (take (3 * (1 + k)) t) table
-          → d' ≡ sets d end (take (3 * rest_read) (drop (3 * (1 + n)) t)) → d' ≡ over (shortened t) table
-      parts-over table d d' room e₁ e₂ =
-          over-behind (take (3 * (1 + k)) t) (take (3 * rest_read) (drop (3 * (1 + n)) t)) table end (sym q) (omega (arith, room, r)) d d' e₁ e₂
-          ∙ ap (λ x. over x table) parts
+    -- the first with the second put behind it
+    pub parts-put : (d table part room behind : List ℕ) (end count : ℕ) → end ≡ length (take (3 * (1 + k)) t) → d ≡ over (take (3 * (1 + k)) t) table
+        → count ≡ length (take (3 * rest_read) (drop (3 * (1 + n)) t)) → part ≡ over (take (3 * rest_read) (drop (3 * (1 + n)) t)) room
+        → take (end + count) (take end d ++ (part ++ behind)) ≡ shortened t
+    parts-put d table part room behind end count l e₁ m e₂ =
+        let x = take (3 * (1 + k)) t in
+        let y = take (3 * rest_read) (drop (3 * (1 + n)) t) in
+        let r = drop (length y) room in
+        ap₂ (λ u v. take (end + count) (u ++ (v ++ behind))) (ap (take end) e₁ ∙ over-take x table end (sym l)) e₂
+        ∙ ap (take (end + count)) (ap (λ u. x ++ u) (append_assoc y r behind) ∙ sym (append_assoc x y (r ++ behind)))
+        ∙ take_at (x ++ y) (r ++ behind) (end + count) (length-append x y ∙ sym (ap₂ ◌+◌ l m)) ∙ parts

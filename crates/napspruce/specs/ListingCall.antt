@@ -1,9 +1,9 @@
 -- 01, Register program, 16: the listing for three texts, or the refusal, and what a lent buffer then holds.
-use Rattle.std.specs.Prelude.{ℕ, ◌+◌, ◌*◌, List, [], ◌∷◌, ◌++◌, ltb, length}
-use Rattle.lines.specs.declared.Refusal.{Refusal}
+use Rattle.std.specs.Prelude.{ℕ, ◌+◌, ◌*◌, List, [], ◌∷◌, ◌++◌, ltb, length, Result as Returned}
+use Rattle.lines.specs.declared.refusing.Refusal.{Refusal as GivenRefusal}
 use Rattle.lines.specs.Line.{is_line}
 use Rattle.lines.specs.Text.{read_text}
-use Rattle.lines.specs.Refusal.{Result, refused, gives, no_table, Outcome}
+use Rattle.lines.specs.Refusal.{Refusal, Result, no_table, answer_of, Outcome}
 use Rattle.lines.specs.Checks.{found, check, first_found, answering, afterwards}
 use Rattle.lines.specs.Calls.{over, line_checks}
 use Rattle.circuit.specs.Circuit.{max_lines}
@@ -11,14 +11,11 @@ use Rattle.circuit.specs.Refusal.{circuit_table}
 use Rattle.rules.specs.RuleRefusal.{rules_table}
 use Rattle.rules.specs.SiteTable.{max_sites, sites_table}
 use Rattle.rewriting.specs.RewriteCall.{table_checks}
-use Rattle.napspruce.specs.declared.listing.Listed.{Listed}
-use Rattle.napspruce.specs.declared.listing.Listed.TheVariants.{Length, Refused}
 use Rattle.napspruce.specs.Listing.{listing_text}
 
 -- the answer: a success gives the listing's length
-abbrev pub paper_values : Listed → Result
-paper_values (Length n) = gives (n ∷ [])
-paper_values (Refused r) = refused r.number r.table
+abbrev pub paper_values : Returned ℕ GivenRefusal → Result
+paper_values = answer_of (λ n. n ∷ [])
 
 -- as many lines as a listing has at most: the circuit's, the summary's three, and one a site
 abbrev pub listing_line_limit : ℕ

@@ -1,20 +1,20 @@
 // The listing's numbers behind the circuit's.
-ghost use Rattle.std.specs.Prelude.{◌≡◌, ◌+◌, ◌*◌, ◌≤◌, length, take};
+ghost use Rattle.std.specs.Prelude.{◌≡◌, ◌+◌, ◌*◌, ◌≤◌, length};
 ghost use Rattle.std.proofs.lemmas.List.Edits.{sets};
 ghost use Rattle.rules.specs.SiteTable.{max_sites};
 ghost use Rattle.napspruce.specs.Listing.{summary, verdict_lines};
 
-use circuit::checked::DepthPair;
+use circuit::DepthPair;
 use lines::checked::write_row;
 
-// What these lines begin with.
-const OLD_PAIR: u32 = 5;
-
-const NEW_PAIR: u32 = 6;
-
-const COUNTS: u32 = 7;
-
-const VERDICT: u32 = 8;
+// What a line begins with that is none of a circuit.
+pub enum Head {
+    OldPair = 5,
+    NewPair = 6,
+    Counts = 7,
+    Verdict = 8,
+    Refusal = 9,
+}
 
 // The pair of the circuit first read, that of the circuit handed back, how many sites there are, and how many of them were kept.
 #[derive(Clone, Copy)]
@@ -25,33 +25,36 @@ pub struct Summary {
     pub kept: u32,
 }
 
-// The pairs and the counts, from `at` on.
+// The pairs and the counts, from `at` on, here and below the place that `write_row` asks for.
 pub fn write_summary(table: &mut [u32], at: usize, s: Summary)
     requires { at + 9 ≤ length table.old }
     ensures { table.new ≡ sets table.old at (summary s) }
 {
-    write_row(table, at, OLD_PAIR, s.old.depth, s.old.critical);
-    write_row(table, at + 3, NEW_PAIR, s.new.depth, s.new.critical);
-    write_row(table, at + 6, COUNTS, s.sites, s.kept);
+    write_row(table, at, Head::OldPair as u32, s.old.depth, s.old.critical);
+    write_row(
+        table,
+        at + 3,
+        Head::NewPair as u32,
+        s.new.depth,
+        s.new.critical,
+    );
+    write_row(table, at + 6, Head::Counts as u32, s.sites, s.kept);
 }
 
-// A function of its own, so that reading a byte asks for its place alone.
-fn verdict_number(verdict: u8) -> u32
-    ensures { result ≡ verdict }
+// A line for each verdict, from `at` on.
+pub fn write_verdicts(table: &mut [u32], at: usize, verdicts: &[u8])
+    requires verdicts_le_max_sites { length verdicts.now ≤ max_sites }
+    requires verdicts_in_bounds { at + 3 * length verdicts.now ≤ length table.old }
+    ensures { table.new ≡ sets table.old at (verdict_lines 1 verdicts.now) }
 {
-    verdict as u32
-}
-
-// A line for each of the first `count` verdicts, from `at` on.
-pub fn write_verdicts(table: &mut [u32], at: usize, verdicts: &[u8], count: usize)
-    requires count_in_bounds { count ≤ length verdicts.now }
-    requires count_le_max_sites { count ≤ max_sites }
-    requires count_in_bounds_2 { at + 3 * count ≤ length table.old }
-    ensures { table.new ≡ sets table.old at (verdict_lines 1 (take count verdicts.now)) }
-{
-    for i in 0..count {
-        let verdict = verdict_number(verdicts[i]);
+    for (i, &verdict) in verdicts.iter().enumerate() {
         let number = i as u32 + 1;
-        write_row(table, at + 3 * i, VERDICT, number, verdict);
+        write_row(
+            table,
+            at + 3 * i,
+            Head::Verdict as u32,
+            number,
+            verdict as u32,
+        );
     }
 }

@@ -1,16 +1,16 @@
 // Texts that become tables.
-ghost use Rattle.std.specs.Prelude.{◌≡◌, ◌+◌, ◌*◌, ◌≤◌, ltb, length, take, drop};
-ghost use Rattle.std.proofs.lemmas.List.Edits.{sets};
-ghost use Rattle.lists.specs.First.{first};
+ghost use Rattle.std.specs.Prelude.{◌≡◌, Some, [], ◌∷◌, ◌+◌, ◌*◌, ◌/◌, ◌≤◌, length, take, drop};
 ghost use Rattle.lines.specs.Calls.{over};
+ghost use Rattle.lines.specs.Checks.{found, first_found};
+ghost use Rattle.lines.specs.Refusal.{found_by, table_number};
 ghost use Rattle.lines.specs.Text.{read_text};
 ghost use Rattle.circuit.specs.Table.{starts};
 ghost use Rattle.napspruce.specs.Front.{shortened, max_circuit_read};
 ghost use Rattle.napspruce.specs.ListingCall.{text_refusal};
 
 use circuit::checked::{MAX_GATES, MAX_INPUTS, MAX_OUTPUTS, START};
-use lines::Answer;
 use lines::checked::{read_lines, read_number};
+use lines::{Refusal, Table, validate};
 
 // As many starting lines as are read of a circuit's text, and as many of the lines behind them: one more than its table can have of each.
 const STARTS_READ: usize = MAX_INPUTS as usize + 1;
@@ -20,32 +20,14 @@ const REST_READ: usize = (MAX_GATES + MAX_OUTPUTS) as usize + 1;
 // As many lines as are read of it in all.
 pub const CIRCUIT_LINES: usize = 1 + STARTS_READ + REST_READ;
 
-// Refusal 1, then 3, of a whole text of any length; else 0.
-pub fn text_refusal(text: &[u8]) -> u32
-    ensures { result ≡ text_refusal text.now }
+// Refusal 1, then 3, of a whole text of any length, as a fault of the table that is to be read of it. A success gives the number of lines.
+pub fn check_text(text: &[u8], table: Table) -> Result<usize, Refusal>
+    ensures { found_by result ≡ first_found (found (text_refusal text.now) (table_number (Some table)) ∷ []) }
 {
-    match lines::validate(text) {
-        Answer::Lines(_) => 0,
-        Answer::Refused(refusal) => refusal.number,
-    }
-}
-
-fn smaller(a: usize, b: usize) -> usize
-    ensures { result ≡ first (ltb a b) a b }
-{
-    if a < b { a } else { b }
-}
-
-// Reads the first lines of a well-written text, at most `most` of them, over the front of the table. The result is how many numbers they are.
-pub fn read_front(text: &[u8], table: &mut [u32], most: usize) -> usize
-    requires text_value { text_refusal text.now ≡ 0 }
-    requires most_in_bounds { 3 * most ≤ length table.old }
-    ensures value { result ≡ length (take (3 * most) (read_text text.now)) }
-    ensures table_after { table.new ≡ over (take (3 * most) (read_text text.now)) table.old }
-{
-    let count = smaller(text.len() / 19, most);
-    read_lines(text, table, count);
-    3 * count
+    validate(text).map_err(|refusal| Refusal {
+        table: Some(table),
+        ..refusal
+    })
 }
 
 // How many lines right after the first begin with 4, of a well-written text.
@@ -54,40 +36,45 @@ fn text_starts(text: &[u8]) -> usize
     ensures { result ≡ starts (read_text text.now) }
 {
     let lines = text.len() / 19;
-    let mut i: usize = 1;
-    while i < lines {
+    for i in 1..lines {
         if read_number(text, 19 * i) != START {
             return i - 1;
         }
-        i += 1;
     }
-    i - 1
+    lines - 1
 }
 
-// Reads the lines of a well-written text from line `from` on, at most `most` of them, into the places from `to` on. The result is how many
-// lines they are.
-fn read_behind(text: &[u8], from: usize, table: &mut [u32], to: usize, most: usize) -> usize
+// Reads the lines of a well-written text from line `from` on, at most `most` of them, over the front of the table. The result is how many
+// numbers they are.
+fn read_from(text: &[u8], from: usize, table: &mut [u32], most: usize) -> usize
     requires text_value { text_refusal text.now ≡ 0 }
     requires from_in_bounds { 3 * from ≤ length (read_text text.now) }
-    requires most_in_bounds { to + 3 * most ≤ length table.old }
-    ensures result_value { 3 * result ≡ length (take (3 * most) (drop (3 * from) (read_text text.now))) }
-    ensures table_after { table.new ≡ sets table.old to (take (3 * most) (drop (3 * from) (read_text text.now))) }
+    requires most_in_bounds { 3 * most ≤ length table.old }
+    ensures value { result ≡ length (take (3 * most) (drop (3 * from) (read_text text.now))) }
+    ensures table_after { table.new ≡ over (take (3 * most) (drop (3 * from) (read_text text.now))) table.old }
 {
-    let count = smaller(text.len() / 19 - from, most);
-    let at = 19 * from;
-    read_lines(&text[at..], &mut table[to..], count);
-    count
+    let count = most.min(text.len() / 19 - from);
+    read_lines(&text[19 * from..], table, count);
+    3 * count
 }
 
-// Reads what is needed of a circuit's text, over the front of the table. The result is how many numbers it is.
-pub fn read_circuit(text: &[u8], table: &mut [u32]) -> usize
+// Reads the first lines of a well-written text, as many as the table has room for, and gives their numbers.
+pub fn read_front<'a>(text: &[u8], table: &'a mut [u32]) -> &'a [u32]
+    requires { text_refusal text.now ≡ 0 }
+    ensures { result.now ≡ take (3 * (length table.old / 3)) (read_text text.now) }
+{
+    let end = read_from(text, 0, table, table.len() / 3);
+    &table[..end]
+}
+
+// Reads what is needed of a circuit's text, and gives its numbers.
+pub fn read_circuit<'a>(text: &[u8], table: &'a mut [u32]) -> &'a [u32]
     requires text_value { text_refusal text.now ≡ 0 }
     requires max_circuit_read_in_bounds { 3 * max_circuit_read ≤ length table.old }
-    ensures value { result ≡ length (shortened (read_text text.now)) }
-    ensures table_after { table.new ≡ over (shortened (read_text text.now)) table.old }
+    ensures { result.now ≡ shortened (read_text text.now) }
 {
     let starts = text_starts(text);
-    let end = read_front(text, table, 1 + smaller(starts, STARTS_READ));
-    let behind = read_behind(text, 1 + starts, table, end, REST_READ);
-    end + 3 * behind
+    let end = read_from(text, 0, table, 1 + starts.min(STARTS_READ));
+    let behind = read_from(text, 1 + starts, &mut table[end..], REST_READ);
+    &table[..end + behind]
 }

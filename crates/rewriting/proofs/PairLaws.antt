@@ -5,10 +5,13 @@ use Prim.Native.Nat.{◌+◌, ◌≤◌, ◌<◌}
 use native.Mathlib.Omega.{arith}
 use lib.Dec.{eqb, ltb}
 use borrow.Author.Tests.{eqb-true, ltb-true, le-ltb, ne_eqb}
+use Rattle.std.specs.Ordering.{partial_lt}
+use Rattle.std.proofs.lemmas.Bool.Decides.{nat_tests}
 use Rattle.circuit.specs.Circuit.{Circuit, max_gates}
 use Rattle.circuit.specs.Critical.{critical_count, pair_of}
 use Rattle.circuit.specs.Trim.{trim}
 use Rattle.circuit.specs.declared.critical.DepthPair.{DepthPair}
+use Rattle.circuit.specs.contracts.critical.DepthPairPartialOrd.TheImpl as order
 use Rattle.circuit.proofs.ValidLaws.{Valid, Limited}
 use Rattle.circuit.proofs.BoundLaws.{critical-count-le}
 use Rattle.circuit.proofs.TrimLaws.{trim-circuit-depth, trim-critical-count}
@@ -24,6 +27,11 @@ lower-weighs-less new old h e = go (ltb new.depth old.depth) refl (eqb new.depth
     go true p q r e = omega (arith, ltb-true new.depth old.depth p)
     go false p true r e = omega (arith, eqb-true new.depth old.depth r, ltb-true new.critical old.critical e)
     go false p false r e = absurd (true≢false (sym e))
+
+-- the order that the code derives is `is_lower`
+pub less-is-lower : (new old : DepthPair) → partial_lt order.partial_cmp-value.it new old ≡ is_lower new old
+unfolding is_lower
+less-is-lower new old = grind (arith, nat_tests)
 
 -- what is deeper is not lower, whatever its critical count
 pub not-lower : (new old : DepthPair) → old.depth < new.depth → is_lower new old ≡ false

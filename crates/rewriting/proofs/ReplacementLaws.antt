@@ -190,7 +190,8 @@ module _ (c : Circuit) (ok : Valid c) (u : Rule) (w : ValidRule u) (gate mask : 
     inputs-length = omega (arith, length-map bytes bit_of)
 
     -- the circuit's bits, of the gates as they are cut
-    cut-bits : (r : ℕ) → get_or (fold_gates bit_op 0 (gates_before c gate ++ gate_there c gate lo hi ∷ gates_behind c gate) (start_bits bytes)) r 0 ≡ value r
+    cut-bits : (r : ℕ)
+        → get_or (fold_gates bit_op 0 (gates_before c gate ++ gate_there c gate lo hi ∷ gates_behind c gate) (start_bits bytes)) r 0 ≡ value r
     unfolding bits
     cut-bits r = ap (λ gs. get_or (fold_gates bit_op 0 gs (start_bits bytes)) r 0) (sym (cut c gate lo hi))
 
@@ -200,11 +201,14 @@ module _ (c : Circuit) (ok : Valid c) (u : Rule) (w : ValidRule u) (gate mask : 
     replace-value v h =
         let right-value = splice-rights splice bit_op 0 (start_bits bytes) inputs-length hole_bits
         (omega (arith, below_length (λ j. value (bound_to b (hole j))) u.holes))
-        (λ r l. cut-bits (right_renaming u gate b r) ∙ ap value (instance-low (first_gate u.holes) gate b r l) ∙ hole-bits c ok.ordered u w gate mask b s bytes e r l)
+        (λ r l. cut-bits (right_renaming u gate b r) ∙ ap value (instance-low (first_gate u.holes) gate b r l)
+        ∙ hole-bits c ok.ordered u w gate mask b s bytes e r l)
         u.closing w.closing-below in
         let same = (matched-gate-has-value c ok.ordered u w gate mask b s bytes e).1 sound in
         splice-value splice bit_op 0 (start_bits bytes) inputs-length
-        (ap (λ r. get_or (fold_gates bit_op 0 (replace c u gate b).gates (start_bits bytes)) r 0) (renumber-gate gate closes (length u.rights) gate refl) ∙ right-value ∙ sym same ∙ sym (cut-bits gate))
+        (ap (λ r. get_or (fold_gates bit_op 0 (replace c u gate b).gates (start_bits bytes)) r 0)
+        (renumber-gate gate closes (length u.rights) gate refl)
+        ∙ right-value ∙ sym same ∙ sym (cut-bits gate))
         v (omega (arith, behind-length c gate lo hi))
         ∙ cut-bits v
 

@@ -25,7 +25,7 @@ use Rattle.rules.proofs.VerdictTheorems.{zero-is-match, verdicts-are-small}
 use Rattle.rewriting.specs.Pair.{is_lower}
 use Rattle.rewriting.specs.Verdict.{too_large, not_lower, site_match, is_too_large, replaced, rewritten, verdict_of}
 use Rattle.rewriting.specs.Run.{State, Step, keeping, step}
-use Rattle.rewriting.specs.StepParts.{match_within, settled}
+use Rattle.rewriting.specs.StepParts.{settled}
 use Rattle.rewriting.specs.Theorems.{KeptIsLower, KeptSiteLowers, OtherSiteLeaves}
 use Rattle.rewriting.proofs.ReplacementLaws.{replace-valid, replace-limited, replace-evaluate}
 use Rattle.rewriting.proofs.PairLaws.{trim-pair}
@@ -76,26 +76,9 @@ module _ (c : Circuit) (rules : List ℕ) (site : Site) where
           let z : (site_match c rules site).verdict ≡ passes = ap tests (sym q) ∙ e in
           absurd (true≢false (sym (eq-eqb _ _ z) ∙ q))
 
-  -- and so did one that is 0 before replacement
-  pub within-zero : (match_within c rules site).verdict ≡ passes
-      → ((site_match c rules site).verdict ≡ passes) × (is_too_large c (rule_of rules site.rule) ≡ false)
-  within-zero e = go (eqb m passes) refl
-    where
-      m : ℕ
-      m = (site_match c rules site).verdict
-
-      go : (a : Bool) → eqb m passes ≡ a → (m ≡ passes) × (is_too_large c (rule_of rules site.rule) ≡ false)
-      go true f = (eqb-true _ _ f, (passed (is_too_large c (rule_of rules site.rule)) 4 0 (rw f at e)).0)
-      go false f = let z : m ≡ passes = rw f at e in absurd (true≢false (sym (eq-eqb _ _ z) ∙ f))
-
-  -- limits of the verdicts: of the match, before replacement, and in the end
+  -- limits of the verdicts: of the match, and in the end
   pub match-limit : (site_match c rules site).verdict ≤ no_match
   match-limit = (verdicts-are-small c rules site.rule site.gate site.mask).1
-
-  pub within-limit : (match_within c rules site).verdict ≤ too_large
-  within-limit =
-      first_either (λ v. v ≤ too_large) (not (eqb (site_match c rules site).verdict passes)) (omega (arith, match-limit))
-      (first_either (λ v. v ≤ too_large) (is_too_large c (rule_of rules site.rule)) (omega arith) (omega arith))
 
   pub verdict-limit : verdict_of c rules site ≤ not_lower
   unfolding verdict_of
@@ -166,31 +149,14 @@ module _ (rules : List ℕ) (s : State) (site : Site) where
           → leaves (keeping rules s site) passes ≡ step rules s site
       step-lower h = step_kept (verdict-kept s.circuit rules site m l (measured true h))
 
-  -- in two parts: v is the verdict before replacement, and applies
-  pub step-before : (v : ℕ) → v ≡ (match_within s.circuit rules site).verdict → (v ≡ passes → ⊥) → leaves s v ≡ step rules s site
-  step-before v e n = go (eqb m passes) refl (is_too_large s.circuit (rule_of rules site.rule)) refl
-    where
-      m : ℕ
-      m = (site_match s.circuit rules site).verdict
-
-      go : (a : Bool) → eqb m passes ≡ a → (b : Bool) → is_too_large s.circuit (rule_of rules site.rule) ≡ b → leaves s v ≡ step rules s site
-      go false f b g =
-          let q : v ≡ m = e ∙ rw f in
-          ap (leaves s) q ∙ step-unmatched (λ z. n (q ∙ z))
-      go true f true g =
-          let q : v ≡ too_large = e ∙ rw (f, g) in
-          ap (leaves s) q ∙ step-large (eqb-true _ _ f) g
-      go true f false g = absurd (n (e ∙ rw (f, g)))
-
-  -- or none does, and the circuit after replacement decides
-  pub step_after : (match_within s.circuit rules site).verdict ≡ passes → Valid s.circuit → WellFormedRules rules
-      → settled s (replaced s.circuit rules site) ≡ step rules s site
-  step_after e ok w = go (is_lower (pair_of (replaced s.circuit rules site)) (pair_of s.circuit)) refl
-    where
-      go : (b : Bool) → is_lower (pair_of (replaced s.circuit rules site)) (pair_of s.circuit) ≡ b
-          → first b (leaves (keeping rules s site) passes) (leaves s not_lower) ≡ step rules s site
-      go true h = let (m, l) = within-zero s.circuit rules site e in step-lower m l ok w h
-      go false h = let (m, l) = within-zero s.circuit rules site e in step-not-lower m l ok w h
+      -- the circuit after replacement decides
+      pub step_after : settled s (replaced s.circuit rules site) ≡ step rules s site
+      step_after = go (is_lower (pair_of (replaced s.circuit rules site)) (pair_of s.circuit)) refl
+        where
+          go : (b : Bool) → is_lower (pair_of (replaced s.circuit rules site)) (pair_of s.circuit) ≡ b
+              → first b (leaves (keeping rules s site) passes) (leaves s not_lower) ≡ step rules s site
+          go true h = step-lower h
+          go false h = step-not-lower h
 
 pub kept-site-lowers : KeptSiteLowers
 unfolding step

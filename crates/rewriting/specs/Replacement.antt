@@ -1,9 +1,9 @@
 -- 01, Sites, 9 to 11: replacement of the site's gate by a rule's right side, by the bindings of the match. The trim that follows is not
 -- part of it.
-use Rattle.std.specs.Prelude.{ℕ, ◌+◌, ◌-◌, ◌<◌, List, ◌∷◌, ◌++◌, map, eqb, ltb, length, take, drop, get_or}
+use Rattle.std.specs.Prelude.{ℕ, ◌+◌, ◌-◌, ◌/◌, ◌<◌, List, [], ◌∷◌, ◌++◌, map, eqb, ltb, length, take, drop, get_or}
 use Rattle.lists.specs.First.{first}
 use Rattle.circuit.specs.Circuit.{Gate, Circuit, first_gate}
-use Rattle.circuit.specs.Table.{start_line, closing_line, encode_lines}
+use Rattle.circuit.specs.Table.{lines_of, start_line, closing_line, encode_lines}
 use Rattle.circuit.specs.Trim.{rename_gate}
 use Rattle.rules.specs.Rule.{Rule}
 use Rattle.rules.specs.Match.{bound_to}
@@ -52,12 +52,13 @@ replace c u gate b =
 abbrev pub front_lines : Circuit → (gates : ℕ) → List ℕ
 front_lines c gates = c.inputs ∷ gates ∷ length c.outputs ∷ encode_lines (map start_line c.starts)
 
--- the table's lines of some right gates, of some of the circuit's gates, and of some outputs, so renamed
-abbrev pub instance_lines : (base gate : ℕ) (bindings : List ℕ) → List Gate → List ℕ
-instance_lines base gate b gs = encode_lines (map (rename_gate (instance_of base gate b)) gs)
+-- the rows of a table, three numbers each
+abbrev pub rows_of : List ℕ → List Gate
+rows_of t = lines_of (length t / 3) t
 
-abbrev pub renumbered_lines : (gate closing count : ℕ) → List Gate → List ℕ
-renumbered_lines gate closing count gs = encode_lines (map (rename_gate (renumber gate closing count)) gs)
+-- the table's lines of some gates, renamed by ρ, and of some outputs, renumbered
+abbrev pub renamed_lines : (ρ : ℕ → ℕ) → List Gate → List ℕ
+renamed_lines ρ gs = encode_lines (map (rename_gate ρ) gs)
 
 abbrev pub renumbered_closings : (gate closing count : ℕ) (outputs : List ℕ) → List ℕ
 renumbered_closings gate closing count os = encode_lines (map closing_line (map (renumber gate closing count) os))
@@ -69,3 +70,8 @@ AllBound base b = (r : ℕ) → r < base → 0 < get_or b r 0
 -- What the replacing code relies on: constants and holes are bound, to references below the gate, as they are by a match.
 abbrev pub BoundBelow : Rule → (gate : ℕ) (bindings : List ℕ) → Type 0
 BoundBelow u gate b = (r : ℕ) → r < first_gate u.holes → (0 < get_or b r 0) × (bound_to b r < gate)
+
+-- each gate's operands are below a limit
+abbrev pub OperandsBelow : (limit : ℕ) → List Gate → Type 0
+OperandsBelow limit [] = Unit {0}
+OperandsBelow limit (g ∷ gs) = ((g.left < limit) × (g.right < limit)) × OperandsBelow limit gs

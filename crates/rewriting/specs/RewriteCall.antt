@@ -1,9 +1,9 @@
 -- The call `rewrite`: what it gives back, and what each lent buffer then holds, for every input.
-use Rattle.std.specs.Prelude.{ℕ, Bool, ◌||◌, List, [], ◌∷◌, ltb, length}
+use Rattle.std.specs.Prelude.{ℕ, Bool, ◌||◌, List, [], ◌∷◌, ltb, length, Result as Returned}
 use Rattle.std.proofs.Math.Option.{Option, none, some}
 use Rattle.lines.specs.Text.{is_partial}
-use Rattle.lines.specs.declared.Refusal.{Refusal}
-use Rattle.lines.specs.Refusal.{Result, refused, gives, no_table, Outcome}
+use Rattle.lines.specs.declared.refusing.Refusal.{Refusal as GivenRefusal}
+use Rattle.lines.specs.Refusal.{Refusal, Result, no_table, answer_of, Outcome}
 use Rattle.lines.specs.Checks.{found, check, answering, afterwards}
 use Rattle.lines.specs.Calls.{over}
 use Rattle.circuit.specs.Circuit.{max_table, line_count}
@@ -13,15 +13,16 @@ use Rattle.circuit.specs.Depth.{circuit_depth}
 use Rattle.circuit.specs.Critical.{critical_count}
 use Rattle.rules.specs.RuleRefusal.{rules_refusal, rules_table}
 use Rattle.rules.specs.SiteTable.{max_sites, sites_refusal, sites_table}
-use Rattle.rewriting.specs.declared.Rewritten.{Rewritten}
-use Rattle.rewriting.specs.declared.Rewritten.TheVariants.{Done, Refused}
+use Rattle.rewriting.specs.declared.Rewriting.{Rewriting}
 use Rattle.rewriting.specs.Run.{final_state, handed_back, all_verdicts}
 
--- the answer: a success gives the lines of the circuit handed back, the old pair, the new pair and the number of sites kept
-abbrev pub paper_values : Rewritten → Result
-paper_values (Done lines old_depth old_critical new_depth new_critical kept) =
-    gives (lines ∷ old_depth ∷ old_critical ∷ new_depth ∷ new_critical ∷ kept ∷ [])
-paper_values (Refused r) = refused r.number r.table
+-- the numbers of a success: the lines of the circuit handed back, the old pair, the new pair and the number of sites kept
+abbrev pub values_of : Rewriting → List ℕ
+values_of r = r.lines ∷ r.old.depth ∷ r.old.critical ∷ r.new.depth ∷ r.new.critical ∷ r.kept ∷ []
+
+-- the answer
+abbrev pub paper_values : Returned Rewriting GivenRefusal → Result
+paper_values = answer_of values_of
 
 -- What the lent buffers hold; `work` is none where nothing is asked of it.
 pub record Lent : Type 0 where

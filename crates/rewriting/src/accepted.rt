@@ -1,76 +1,57 @@
 // The rewriting of tables that no refusal applies to.
 ghost use Rattle.std.specs.Prelude.{◌≡◌, false, ◌≤◌, length};
 ghost use Rattle.lines.specs.Calls.{over};
-ghost use Rattle.lines.specs.Refusal.{gives};
 ghost use Rattle.circuit.specs.Circuit.{max_table, line_count};
 ghost use Rattle.circuit.specs.Table.{decode, encode};
-ghost use Rattle.circuit.specs.WellFormed.{WellFormed};
-ghost use Rattle.rules.specs.WellFormed.{WellFormedRules, WellFormedSites};
-ghost use Rattle.rewriting.specs.RewriteCall.{paper_values as rewritten_values, are_short, done_values};
+ghost use Rattle.rewriting.specs.RewriteCall.{values_of, are_short, done_values};
 ghost use Rattle.rewriting.specs.Run.{handed_back, all_verdicts};
 
-use crate::Rewritten;
-use crate::run::{Run, run_sites};
-use circuit::checked::{MAX_REFERENCES, copy_over, pair_with_reverse_depths};
+use crate::Rewriting;
+use crate::run::{Current, Run, Workspace};
+use circuit::checked::{Circuit, MAX_REFERENCES, MAX_TABLE, copy_over};
+use rules::checked::{Rules, Sites};
 
 // A circuit's table over the front of `result`. What is given back is how many lines it has.
-fn copy_table(table: &[u32], res: &mut [u32]) -> u32
-    requires well_formed { WellFormed table.now }
-    requires max_table_in_bounds { max_table ≤ length res.old }
-    ensures value { result ≡ line_count (decode table.now) }
-    ensures res_after { res.new ≡ over table.now res.old }
+fn copy_table(circuit: &Circuit<'_>, res: &mut [u32]) -> u32
+    requires { max_table ≤ length res.old }
+    ensures value { result ≡ line_count (decode circuit.now) }
+    ensures res_after { res.new ≡ over circuit.now res.old }
 {
+    let table = circuit.table();
     copy_over(table, res);
     (table.len() / 3) as u32
 }
 
-// Trims the circuit into the working table, runs over the sites there, and hands back what they leave.
+// Trims the circuit, runs over the sites, and hands back what they leave.
 pub fn rewrite_accepted(
-    circuit: &[u32],
-    rules: &[u32],
-    sites: &[u32],
+    circuit: &Circuit<'_>,
+    rules: &Rules,
+    sites: &Sites,
     res: &mut [u32],
     work: &mut [u32],
     verdicts: &mut [u8],
-) -> Rewritten
-    requires well_formed { WellFormed circuit.now }
-    requires well_formed_rules { WellFormedRules rules.now }
-    requires well_formed_sites { WellFormedSites sites.now }
-    requires verdicts_value { are_short res.old work.old verdicts.old ≡ false }
-    ensures result_value { rewritten_values result ≡ gives (done_values circuit.now rules.now sites.now) }
+) -> Rewriting
+    requires { are_short res.old work.old verdicts.old ≡ false }
+    ensures result_value { values_of result ≡ done_values circuit.now rules.now.table.now sites.now.table.now }
     ensures res_after { res.new ≡ over
-        (encode (handed_back circuit.now rules.now sites.now)) res.old }
-    ensures verdicts_after { verdicts.new ≡ over (all_verdicts circuit.now rules.now sites.now) verdicts.old }
+        (encode (handed_back circuit.now rules.now.table.now sites.now.table.now)) res.old }
+    ensures verdicts_after { verdicts.new ≡ over (all_verdicts circuit.now rules.now.table.now sites.now.table.now) verdicts.old }
 {
-    let mut depths = [0u32; MAX_REFERENCES];
-    let mut reverse = [0u32; MAX_REFERENCES];
-    let mut current = [0u32; MAX_REFERENCES];
-    let old = pair_with_reverse_depths(circuit, &mut depths, &mut reverse);
-    let first = Run {
-        end: 0,
-        depth: old.depth,
-        critical: old.critical,
-        kept: 0,
+    let mut w = Workspace {
+        depths: [0u32; MAX_REFERENCES],
+        reverse: [0u32; MAX_REFERENCES],
     };
-    let start = first.keep(circuit, &mut depths, &reverse, &mut current, work);
-    let run = run_sites(
-        start,
-        rules,
-        sites,
-        &mut depths,
-        &mut reverse,
-        &mut current,
-        work,
-        verdicts,
-    );
-    let end = run.end;
-    let lines = copy_table(&work[..end], res);
-    Rewritten::Done {
-        lines: lines,
-        old_depth: old.depth,
-        old_critical: old.critical,
-        new_depth: run.depth,
-        new_critical: run.critical,
+    let mut current = Current {
+        table: [0u32; MAX_TABLE],
+        depths: [0u32; MAX_REFERENCES],
+    };
+    let start = Run::start(circuit, &mut current, &mut w);
+    let run = start.take_sites(rules, sites, &mut current, &mut w, work, verdicts);
+    let lines = copy_table(&run.circuit(&current), res);
+    Rewriting {
+        lines,
+        old: start.pair,
+        new: run.pair,
         kept: run.kept,
     }
 }

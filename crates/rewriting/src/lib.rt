@@ -1,7 +1,8 @@
 // Rewriting a circuit at a list of sites (01, Sites): replacement, verdicts, and the run over the list.
 #![tactic(auto)]
 
-ghost use Rattle.std.specs.Prelude.{◌≡◌};
+ghost use Rattle.std.specs.Prelude.{◌≡◌, IfOk};
+ghost use Rattle.lines.specs.Refusal.{found_by};
 ghost use Rattle.lines.specs.Checks.{first_found};
 ghost use Rattle.rewriting.specs.RewriteCall.{paper_values as rewritten_values, outcome_of, are_short, rewrite_checks, rewriting};
 
@@ -10,28 +11,22 @@ mod replacing;
 mod run;
 
 use accepted::rewrite_accepted;
-use circuit::CIRCUIT_TABLE;
-use circuit::checked::{MAX_TABLE, refusal};
-use lines::{NO_TABLE, Refusal, is_partial, refuse};
-use rules::checked::{MAX_SITES, rules_refusal, sites_refusal};
-use rules::{RULES_TABLE, SITES_TABLE};
+use circuit::DepthPair;
+use circuit::checked::{Circuit, MAX_TABLE, accept};
+use lines::{Reason, Refusal, Table, is_partial, refuse_if};
+use rules::checked::{MAX_SITES, Rules, Sites, accept_rules, accept_sites};
 
 // As many verdicts as there can be sites.
 const MAX_VERDICTS: usize = MAX_SITES as usize;
 
 // How many lines the circuit handed back has, the pair of the circuit first read, the pair of the one handed back, and how many sites
-// were kept; or the refusal.
-#[derive(Clone, Copy)]
-pub enum Rewritten {
-    Done {
-        lines: u32,
-        old_depth: u32,
-        old_critical: u32,
-        new_depth: u32,
-        new_critical: u32,
-        kept: u32,
-    },
-    Refused(Refusal),
+// were kept.
+#[derive(Clone, Copy, Debug, PartialEq, Eq)]
+pub struct Rewriting {
+    pub lines: u32,
+    pub old: DepthPair,
+    pub new: DepthPair,
+    pub kept: u32,
 }
 
 // Refusal 2.
@@ -41,46 +36,34 @@ fn are_short(res: &[u32], work: &[u32], verdicts: &[u8]) -> bool
     (res.len() < MAX_TABLE) | ((work.len() < MAX_TABLE) | (verdicts.len() < MAX_VERDICTS))
 }
 
-// The refusal of a call of `rewrite`, if there is one.
-fn rewrite_refusal(
-    circuit: &[u32],
-    rules: &[u32],
-    sites: &[u32],
+// The circuit, the rules and the sites of a call of `rewrite`, if no refusal applies.
+fn accept_rewrite<'a>(
+    circuit: &'a [u32],
+    rules: &'a [u32],
+    sites: &'a [u32],
     res: &[u32],
     work: &[u32],
     verdicts: &[u8],
-) -> Refusal
-    ensures { result ≡ first_found (rewrite_checks circuit.now rules.now sites.now
+) -> Result<(Circuit<'a>, Rules<'a>, Sites<'a>), Refusal>
+    ensures refusal { found_by result ≡ first_found (rewrite_checks circuit.now rules.now sites.now
         res.now work.now verdicts.now) }
+    ensures accepted { IfOk result (λ (c, r, s). (c ≡ circuit.now) × (r.table.now ≡ rules.now) × (s.table.now ≡ sites.now)) }
 {
-    if is_partial(circuit) {
-        return refuse(1, CIRCUIT_TABLE);
-    }
-    if is_partial(rules) {
-        return refuse(1, RULES_TABLE);
-    }
-    if is_partial(sites) {
-        return refuse(1, SITES_TABLE);
-    }
-    if are_short(res, work, verdicts) {
-        return refuse(2, NO_TABLE);
-    }
-    let of_circuit = refusal(circuit);
-    if of_circuit != 0 {
-        return refuse(of_circuit, CIRCUIT_TABLE);
-    }
-    let of_rules = rules_refusal(rules);
-    if of_rules != 0 {
-        return refuse(of_rules, RULES_TABLE);
-    }
-    let of_sites = sites_refusal(sites);
-    if of_sites != 0 {
-        return refuse(of_sites, SITES_TABLE);
-    }
-    refuse(0, NO_TABLE)
+    refuse_if(
+        is_partial(circuit),
+        Reason::WrongLength,
+        Some(Table::Circuit),
+    )?;
+    refuse_if(is_partial(rules), Reason::WrongLength, Some(Table::Rules))?;
+    refuse_if(is_partial(sites), Reason::WrongLength, Some(Table::Sites))?;
+    refuse_if(are_short(res, work, verdicts), Reason::BufferTooShort, None)?;
+    let accepted = accept(circuit)?;
+    let rules = accept_rules(rules)?;
+    let sites = accept_sites(sites)?;
+    Ok((accepted, rules, sites))
 }
 
-// The circuit, trimmed and then rewritten at the sites in order, into `result`, and a verdict a site into `verdicts`.
+// The circuit, trimmed and then rewritten at the sites in order, into `res`, and a verdict a site into `verdicts`.
 pub fn rewrite(
     circuit: &[u32],
     rules: &[u32],
@@ -88,13 +71,10 @@ pub fn rewrite(
     res: &mut [u32],
     work: &mut [u32],
     verdicts: &mut [u8],
-) -> Rewritten
+) -> Result<Rewriting, Refusal>
     ensures { outcome_of (rewritten_values result) res.new work.new verdicts.new ≡
         rewriting circuit.now rules.now sites.now res.old work.old verdicts.old }
 {
-    let refusal = rewrite_refusal(circuit, rules, sites, res, work, verdicts);
-    if refusal.number != 0 {
-        return Rewritten::Refused(refusal);
-    }
-    rewrite_accepted(circuit, rules, sites, res, work, verdicts)
+    let (circuit, rules, sites) = accept_rewrite(circuit, rules, sites, res, work, verdicts)?;
+    Ok(rewrite_accepted(&circuit, &rules, &sites, res, work, verdicts))
 }

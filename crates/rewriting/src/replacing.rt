@@ -1,180 +1,154 @@
 // Replacement (01, Sites, 9 to 11): the table of the replaced circuit, line by line.
-ghost use Rattle.std.specs.Prelude.{◌≡◌, true, false, ◌+◌, ◌*◌, ◌-◌, ◌≤◌, ◌<◌, length, drop};
+ghost use Rattle.std.specs.Prelude.{◌≡◌, ℕ, true, false, ◌+◌, ◌*◌, ◌≤◌, ◌<◌, length};
 ghost use Rattle.std.proofs.lemmas.List.Edits.{sets};
-ghost use Rattle.std.proofs.Math.Seq.{slice};
 ghost use Rattle.lines.specs.Calls.{over};
 ghost use Rattle.circuit.specs.Circuit.{first_gate, max_references, max_table};
-ghost use Rattle.circuit.specs.Each.{all_gates};
 ghost use Rattle.circuit.specs.Path.{is_gate};
-ghost use Rattle.circuit.specs.Refusal.{operands_below};
-ghost use Rattle.circuit.specs.Table.{gates, outputs, gates_from, lines_of, gate_lines, decode, encode};
-ghost use Rattle.circuit.specs.WellFormed.{WellFormed};
+ghost use Rattle.circuit.specs.Table.{outputs, gates_from, decode, encode};
 ghost use Rattle.rules.specs.Rule.{max_holes, max_rights};
-ghost use Rattle.rules.specs.RuleTable.{rule_at};
-ghost use Rattle.rules.specs.WellFormed.{WellFormedRule};
-ghost use Rattle.rewriting.specs.Replacement.{instance_of, renumber, front_lines, instance_lines, renumbered_lines, renumbered_closings, replace, AllBound, BoundBelow};
+ghost use Rattle.rules.specs.Remembered.{said};
+ghost use Rattle.rewriting.specs.Replacement.{instance_of, renumber, front_lines, rows_of, renamed_lines, renumbered_closings, replace, AllBound, BoundBelow, OperandsBelow};
 ghost use Rattle.rewriting.specs.Verdict.{is_too_large};
 
-use circuit::checked::{
-    CLOSING, CONSTANTS, closings_from, copy_over, gate_line, gates_from, output_reference,
-};
+use circuit::checked::{CLOSING, Circuit, copy_over};
 use lines::checked::write_row;
-use rules::checked::{BINDINGS, RightSide, right_side};
+use rules::checked::{Bindings, Rule};
 
-// What each use of a reference is renumbered by: the site's gate, what that becomes, and how many gates take its place.
+// What references become, of those below a limit.
+trait Renaming {
+    ghost limit: { Self → ℕ };
+
+    ghost image: { Self → ℕ → ℕ };
+
+    fn rename(&self, v: u32) -> u32
+        requires { v < limit self.now }
+        ensures { result ≡ image self.now v };
+}
+
+// References of a right side become those of the circuit, where `base` is the reference of that side's first gate.
 #[derive(Clone, Copy)]
-struct Renaming {
+struct Instance<'a> {
+    base: u32,
+    gate: u32,
+    bindings: &'a Bindings,
+    ghost base_limit: { base ≤ first_gate max_holes },
+    ghost gate_limit: { gate < max_references },
+    ghost all_bound: { AllBound base bindings.now },
+}
+
+impl Renaming for Instance<'_> {
+    ghost limit = { λ s. s.base + max_rights };
+
+    ghost image = { λ s. instance_of s.base s.gate s.bindings.now };
+
+    #[tactic(auto, unfolding(crate::specs::Replacement::instance_of))]
+    fn rename(&self, r: u32) -> u32 {
+        if r < self.base {
+            return self.bindings[r as usize] - 1;
+        }
+        self.gate + (r - self.base)
+    }
+}
+
+// References of the circuit, where the site's gate becomes `closing`, and `count` gates take its place.
+#[derive(Clone, Copy)]
+struct Renumbering {
     gate: u32,
     closing: u32,
     count: u32,
+    ghost count_limit: { count ≤ max_rights },
 }
 
-// What reference r of the right side is in the circuit, where `base` is the reference of that side's first gate.
-fn instance_of(base: u32, gate: u32, b: &[u32; BINDINGS], r: u32) -> u32
-    requires base_bound { (base ≤ first_gate max_holes) × (r < base + max_rights) }
-    requires gate_lt_max_references { gate < max_references }
-    requires all_bound { AllBound base b.now }
-    ensures { result ≡ instance_of base gate b.now r }
-{
-    if r < base {
-        return b[r as usize] - 1;
-    }
-    gate + (r - base)
-}
+impl Renaming for Renumbering {
+    ghost limit = { λ _. max_references };
 
-// What reference v of the circuit becomes.
-fn renumber(s: Renaming, v: u32) -> u32
-    requires v_lt_max_references { v < max_references }
-    requires count_le_max_rights { s.count ≤ max_rights }
-    ensures { result ≡ renumber s.gate s.closing s.count v }
-{
-    if v < s.gate {
-        return v;
+    ghost image = { λ s. renumber s.gate s.closing s.count };
+
+    #[tactic(auto, unfolding(crate::specs::Replacement::renumber))]
+    fn rename(&self, v: u32) -> u32 {
+        if v < self.gate {
+            return v;
+        }
+        if v == self.gate {
+            return self.closing;
+        }
+        v - 1 + self.count
     }
-    if v == s.gate {
-        return s.closing;
-    }
-    v - 1 + s.count
 }
 
 // The head, for so many gates, and the starting lines, as they are, up to where the gate lines begin.
-fn write_front(c: &[u32], lines: usize, gates: u32, out: &mut [u32])
-    requires well_formed { WellFormed c.now }
-    requires lines_value { lines ≡ gates_from c.now }
-    requires lines_in_bounds { lines ≤ length out.old }
+fn write_front(c: &Circuit<'_>, gates: u32, out: &mut [u32])
+    requires { gates_from c.now ≤ length out.old }
     ensures { out.new ≡ over (front_lines (decode c.now) gates) out.old }
 {
-    copy_over(&c[..lines], out);
-    write_row(out, 0, c[0], gates, c[2]);
+    copy_over(c.front(), out);
+    out[1] = gates;
 }
 
-// Gates `from` up to `to` of the circuit, whose gate lines begin at `lines`, renumbered, from `at` on. The result is the place behind them.
-fn write_gates(
-    c: &[u32],
-    lines: usize,
-    from: usize,
-    to: usize,
-    s: Renaming,
-    out: &mut [u32],
-    at: usize,
-) -> usize
-    requires well_formed { WellFormed c.now }
-    requires lines_value { lines ≡ gates_from c.now }
-    requires from_le_to { (from ≤ to) × (to ≤ gates c.now) }
-    requires count_le_max_rights { s.count ≤ max_rights }
-    requires from_in_bounds { at + 3 * (to - from) ≤ length out.old }
-    ensures out_after { out.new ≡ sets out.old at
-        (renumbered_lines s.gate s.closing s.count (slice from to (gate_lines c.now))) }
-    ensures value { result ≡ at + 3 * (to - from) }
+// The gates whose lines `rows` has, renamed, from `at` on, the place that `write_row` asks for. The result is the place behind them.
+fn write_gates<R: Renaming>(rows: &[u32], renaming: &R, out: &mut [u32], at: usize) -> usize
+    requires operands { OperandsBelow (R.limit renaming.now) (rows_of rows.now) }
+    requires room { at + 3 * length (rows_of rows.now) ≤ length out.old }
+    ensures out_after { out.new ≡ sets out.old at (renamed_lines (R.image renaming.now) (rows_of rows.now)) }
+    ensures value { result ≡ at + 3 * length (rows_of rows.now) }
 {
-    let n = to - from;
-    for i in 0..n {
-        let g = gate_line(c, lines, from + i);
-        let left = renumber(s, g.left);
-        let right = renumber(s, g.right);
-        write_row(out, at + 3 * i, g.kind, left, right);
+    let mut end = at;
+    for row in rows.chunks_exact(3) {
+        let left = renaming.rename(row[1]);
+        let right = renaming.rename(row[2]);
+        write_row(out, end, row[0], left, right);
+        end += 3;
     }
-    at + 3 * n
-}
-
-// The right gates' lines, their operands replaced by what they are in the circuit, from `at` on. The result is the place behind them.
-fn write_rights(
-    t: &[u32],
-    side: RightSide,
-    gate: u32,
-    b: &[u32; BINDINGS],
-    out: &mut [u32],
-    at: usize,
-) -> usize
-    requires base_bound { (side.base ≤ first_gate max_holes) × (side.count ≤ max_rights) }
-    requires count_in_bounds { side.from + 3 * side.count ≤ length t.now }
-    requires t_value { all_gates operands_below side.base (lines_of side.count (drop side.from t.now)) ≡ true }
-    requires gate_lt_max_references { gate < max_references }
-    requires all_bound { AllBound side.base b.now }
-    requires count_in_bounds_2 { at + 3 * side.count ≤ length out.old }
-    ensures out_after { out.new ≡ sets out.old at
-        (instance_lines side.base gate b.now (lines_of side.count (drop side.from t.now))) }
-    ensures value { result ≡ at + 3 * side.count }
-{
-    let n = side.count as usize;
-    for i in 0..n {
-        let q = side.from + 3 * i;
-        let left = instance_of(side.base, gate, b, t[q + 1]);
-        let right = instance_of(side.base, gate, b, t[q + 2]);
-        write_row(out, at + 3 * i, t[q], left, right);
-    }
-    at + 3 * n
+    end
 }
 
 // The closing lines, their references renumbered, from `at` on. The result is the place behind them.
-fn write_closings(c: &[u32], s: Renaming, out: &mut [u32], at: usize) -> usize
-    requires well_formed { WellFormed c.now }
-    requires count_le_max_rights { s.count ≤ max_rights }
-    requires c_in_bounds { at + 3 * outputs c.now ≤ length out.old }
-    ensures out_after { out.new ≡ sets out.old at (renumbered_closings s.gate s.closing s.count (decode c.now).outputs) }
+fn write_closings(c: &Circuit<'_>, s: &Renumbering, out: &mut [u32], at: usize) -> usize
+    requires { at + 3 * outputs c.now ≤ length out.old }
+    ensures out_after { out.new ≡ sets out.old at (renumbered_closings s.now.gate s.now.closing s.now.count (decode c.now).outputs) }
     ensures value { result ≡ at + 3 * outputs c.now }
 {
-    let from = closings_from(c);
-    let n = c[2] as usize;
-    for i in 0..n {
-        let old = output_reference(c, from, i) as u32;
-        let new = renumber(s, old);
+    let outputs = c.outputs();
+    for i in 0..outputs {
+        let old = c.output(i) as u32;
+        let new = s.rename(old);
         write_row(out, at + 3 * i, CLOSING, new, 0);
     }
-    at + 3 * n
+    at + 3 * outputs
 }
 
 // The table of the replaced circuit into the front of `out`. The result is where it ends.
-pub fn replace(
-    c: &[u32],
-    t: &[u32],
-    p: usize,
-    gate: u32,
-    b: &[u32; BINDINGS],
-    out: &mut [u32],
-) -> usize
-    requires well_formed { WellFormed c.now }
-    requires well_formed_rule { WellFormedRule t.now p }
+pub fn replace(c: &Circuit<'_>, rule: &Rule, gate: u32, b: &Bindings, out: &mut [u32]) -> usize
     requires gate_value { is_gate (decode c.now) gate ≡ true }
-    requires bound_below { BoundBelow (rule_at t.now p) gate b.now }
-    requires p_value { is_too_large (decode c.now) (rule_at t.now p) ≡ false }
+    requires bound_below { BoundBelow (said rule.now) gate b.now }
+    requires within_size { is_too_large (decode c.now) (said rule.now) ≡ false }
     requires max_table_in_bounds { max_table ≤ length out.old }
-    ensures out_after { out.new ≡ over
-        (encode (replace (decode c.now) (rule_at t.now p) gate b.now)) out.old }
-    ensures value { result ≡ length (encode (replace (decode c.now) (rule_at t.now p) gate b.now)) }
+    ensures out_after { out.new ≡ over (encode (replace (decode c.now) (said rule.now) gate b.now)) out.old }
+    ensures value { result ≡ length (encode (replace (decode c.now) (said rule.now) gate b.now)) }
 {
-    let lines = gates_from(c);
-    let side = right_side(t, p);
-    let s = Renaming {
-        gate: gate,
-        closing: instance_of(side.base, gate, b, side.closing),
-        count: side.count,
+    let table = c.table();
+    let lines = c.gates_from();
+    let gates = c.gates();
+    let first = c.first_gate();
+    let from = rule.right_from();
+    let count = rule.rights();
+    let rights = Instance {
+        base: rule.base(),
+        gate,
+        bindings: b,
     };
-    let gates = c[1];
-    write_front(c, lines, gates - 1 + side.count, out);
-    let before = (gate - (c[0] + CONSTANTS)) as usize;
-    let rights_at = write_gates(c, lines, 0, before, s, out, lines);
-    let behind_at = write_rights(t, side, gate, b, out, rights_at);
-    let closings_at = write_gates(c, lines, before + 1, gates as usize, s, out, behind_at);
-    write_closings(c, s, out, closings_at)
+    let others = Renumbering {
+        gate,
+        closing: rights.rename(rule.closing()),
+        count,
+    };
+    let site = lines + 3 * (gate - first) as usize;
+    let before = &table[lines..site];
+    let right = &rule.table[from..from + 3 * count as usize];
+    let behind = &table[site + 3..lines + 3 * gates];
+    write_front(c, gates as u32 - 1 + count, out);
+    let end = write_gates(before, &others, out, lines);
+    let end = write_gates(right, &rights, out, end);
+    let end = write_gates(behind, &others, out, end);
+    write_closings(c, &others, out, end)
 }

@@ -1,318 +1,274 @@
-// The run over a list of sites (01, Sites, 3 and 13 to 18). The circuit as it then is stands at the front of the working table.
-ghost use Rattle.std.specs.Prelude.{◌≡◌, ◌≤◌, ◌<◌, length, take};
+// The run over a list of sites (01, Sites, 3 and 13 to 18).
+ghost use Rattle.std.specs.Prelude.{◌≡◌, ◌+◌, ◌≤◌, ◌<◌, length, take};
 ghost use Rattle.lists.specs.First.{first};
 ghost use Rattle.lines.specs.Calls.{over};
-ghost use Rattle.circuit.specs.Circuit.{first_gate, max_references, max_table};
+ghost use Rattle.circuit.specs.Circuit.{max_references, max_table};
 ghost use Rattle.circuit.specs.Critical.{pair_of};
 ghost use Rattle.circuit.specs.Depth.{depths as depths_of};
-ghost use Rattle.circuit.specs.ReverseDepth.{reverse_depths};
-ghost use Rattle.circuit.specs.Table.{inputs, refs, decode};
-ghost use Rattle.circuit.specs.Trim.{trim};
+ghost use Rattle.circuit.specs.Table.{refs, decode};
+ghost use Rattle.circuit.specs.Trim.{trim, trim_of};
 ghost use Rattle.circuit.specs.WellFormed.{WellFormed};
-ghost use Rattle.rules.specs.Match.{unbound};
-ghost use Rattle.rules.specs.Remembered.{Remembered};
-ghost use Rattle.rules.specs.RuleTable.{rule_at};
+ghost use Rattle.rules.specs.Remembered.{said, Remembered};
 ghost use Rattle.rules.specs.SiteTable.{max_sites, site};
-ghost use Rattle.rules.specs.Verdict.{passes, not_sound, match_judged};
-ghost use Rattle.rules.specs.WellFormed.{WellFormedRule, WellFormedRules, WellFormedSites};
-ghost use Rattle.rewriting.specs.Run.{step, after_all, verdicts_on};
-ghost use Rattle.rewriting.specs.RunState.{state_of, step_of, run_pair, Held, DepthsHeld};
-ghost use Rattle.rewriting.specs.StepParts.{within_size, compared, settled};
+ghost use Rattle.rules.specs.Verdict.{passes, number_of, applied_number};
+ghost use Rattle.rewriting.specs.Run.{start_state, step, after_all, verdicts_on};
+ghost use Rattle.rewriting.specs.RunState.{state_of, step_of, stepped_by, Held, DepthsOf, Measured, SameBelow};
+ghost use Rattle.rewriting.specs.StepParts.{settled};
 ghost use Rattle.rewriting.specs.Verdict.{too_large, is_too_large};
 
 use crate::replacing::replace;
 use circuit::checked::{
-    CONSTANTS, DepthPair, MAX_GATES, MAX_TABLE, copy_over, critical_with_reverse_depths,
-    depths_from, output_depth, trim_by_reverse_depths, trim_depths,
+    Circuit, DepthPair, MAX_GATES, MAX_REFERENCES, MAX_TABLE, copy_over,
+    critical_with_reverse_depths, depths_from, output_depth, pair_with_reverse_depths,
+    trim_by_reverse_depths, trim_depths,
 };
-use rules::checked::{BINDINGS, RULE_NUMBERS, judged_once, match_judged, sites_from};
-use rules::{NO_MATCH, NO_RULE, NOT_A_GATE, NOT_SOUND, PASSES};
+use rules::Verdict;
+use rules::checked::{HEAD, Judgements, RULE_NUMBERS, Rule, Rules, Sites, match_judged};
 
-// 01's numbers of the verdicts that come after the match (Sites, 13). A site that passes them too is kept.
-const TOO_LARGE: u32 = 5;
+// What is worked out, for each reference, of a circuit that is not trimmed yet.
+#[derive(Drop)]
+pub struct Workspace {
+    pub depths: [u32; MAX_REFERENCES],
+    pub reverse: [u32; MAX_REFERENCES],
+}
 
-const NOT_LOWER: u32 = 6;
+// The arrays that a run is handed on beside: they begin with the table of the circuit as it then is, and with its depths (`Held`). By value
+// they would be copied at each site.
+#[derive(Drop)]
+pub struct Current {
+    pub table: [u32; MAX_TABLE],
+    pub depths: [u32; MAX_REFERENCES],
+}
 
-// What is handed on from site to site beside the working table and the depths of its circuit: where the circuit's table there ends, its
-// pair, and how many sites were kept.
-#[derive(Clone, Copy)]
+// What is handed on from site to site (01, Sites, 15): where the circuit's table ends, its pair, and how many sites were kept.
+#[derive(Clone, Copy, Debug, PartialEq, Eq)]
 pub struct Run {
-    pub end: usize,
-    pub depth: u32,
-    pub critical: u32,
+    end: usize,
+    pub pair: DepthPair,
     pub kept: u32,
 }
 
-// The next run, and the site's verdict.
-#[derive(Clone, Copy)]
+// The next run, and the site's verdict, if one applies.
+#[derive(Clone, Copy, Debug, PartialEq, Eq)]
 pub struct Stepped {
     pub run: Run,
-    pub verdict: u32,
+    pub verdict: Option<Verdict>,
 }
 
-// TOO_LARGE, else PASSES, of the rule at p.
-fn size_verdict(table: &[u32], rules: &[u32], p: usize) -> u32
-    requires well_formed { WellFormed table.now }
-    requires well_formed_rule { WellFormedRule rules.now p }
-    ensures { result ≡ first (is_too_large (decode table.now) (rule_at rules.now p)) too_large passes }
+// Whether the circuit after replacement by the rule is within the limits: the last verdict before replacement.
+fn check_size(circuit: &Circuit<'_>, rule: &Rule) -> Result<(), Verdict>
+    ensures { number_of result ≡ first (is_too_large (decode circuit.now) (said rule.now)) too_large passes }
 {
-    if MAX_GATES + 1 < table[1] + rules[p + 2] {
-        return TOO_LARGE;
+    if MAX_GATES + 1 < circuit.gates() as u32 + rule.rights() {
+        return Err(Verdict::TooLarge);
     }
-    PASSES
+    Ok(())
 }
 
-// The first verdict up to TOO_LARGE that applies, else PASSES, of the rule at p, where the judge said `judged` of it. The bindings go into b,
-// where nothing is bound yet.
-fn match_within(
-    table: &[u32],
-    rules: &[u32],
-    p: usize,
-    judged: u32,
-    gate: u32,
-    mask: u32,
-    b: &mut [u32; BINDINGS],
-) -> u32
-    requires well_formed { WellFormed table.now }
-    requires judged_le_not_sound { judged ≤ not_sound }
-    requires well_formed_rule { judged ≡ passes → WellFormedRule rules.now p }
-    requires b_value { b.old ≡ unbound }
-    ensures value { result ≡ (within_size (decode table.now) (rule_at rules.now p)
-        (match_judged (decode table.now) (rule_at rules.now p) judged gate mask)).verdict }
-    ensures b_after { result ≡ passes → b.new ≡
-        (match_judged (decode table.now) (rule_at rules.now p) judged gate mask).bindings }
+// 01's number of a site's verdict, 0 if it is kept.
+fn verdict_byte(verdict: Option<Verdict>) -> u8
+    ensures { result ≡ applied_number verdict }
 {
-    let verdict = match_judged(table, rules, p, judged, gate, mask, b);
     match verdict {
-        NO_RULE | NOT_SOUND | NOT_A_GATE | NO_MATCH => verdict,
-        PASSES | _ => size_verdict(table, rules, p),
+        None => 0,
+        Some(v) => v as u8,
     }
+}
+
+// The circuit of `kept`, trimmed, into `table`, and its depths into `depths`. The result is where its table ends. Then `w.depths` has been
+// free to take the new numbers of references. That `kept` is well-formed is told by its methods alone, and none is called here.
+fn trim_into(kept: &Circuit<'_>, w: &mut Workspace, table: &mut [u32], depths: &mut [u32]) -> usize
+    requires well_formed { WellFormed kept.now }
+    requires measured { Measured kept.now w.old }
+    requires max_table_in_bounds { max_table ≤ length table.old }
+    requires max_references_in_bounds { max_references ≤ length depths.old }
+    ensures value { result ≡ length (trim_of kept.now) }
+    ensures table_after { table.new ≡ over (trim_of kept.now) table.old }
+    ensures depths_after { DepthsOf (trim (decode kept.now)) depths.new }
+{
+    trim_depths(kept, &w.reverse, &w.depths, depths);
+    trim_by_reverse_depths(kept, &w.reverse, &mut w.depths, table)
 }
 
 impl Run {
-    // The next run by the pair of the circuit after replacement, and NOT_LOWER, else PASSES.
-    fn compare(self, new: DepthPair) -> Stepped
-        requires { self.kept < max_sites }
-        ensures { result ≡ compared self new }
+    // The circuit first read, trimmed (01, Sites, 3).
+    pub fn start(circuit: &Circuit<'_>, current: &mut Current, w: &mut Workspace) -> Run
+        ensures value { state_of result current.new ≡ start_state (decode circuit.now) }
+        ensures held { Held result current.new }
+        ensures well_formed { WellFormed circuit.now }
     {
-        if (new.depth < self.depth) | ((new.depth == self.depth) & (new.critical < self.critical)) {
-            let kept = self.kept + 1;
-            return Stepped {
-                run: Run {
-                    end: self.end,
-                    depth: new.depth,
-                    critical: new.critical,
-                    kept: kept,
-                },
-                verdict: PASSES,
-            };
-        }
-        Stepped {
-            run: self,
-            verdict: NOT_LOWER,
-        }
+        prove!(circuit.references() <= MAX_REFERENCES);
+        let pair = pair_with_reverse_depths(circuit, &mut w.depths, &mut w.reverse);
+        let end = trim_into(circuit, w, &mut current.table, &mut current.depths);
+        Run { end, pair, kept: 0 }
     }
 
-    // The run once a circuit is kept whose pair it has: the circuit, trimmed, goes into the working table, and its depths into `current`. Then
-    // `depths` is free to take the new numbers of references.
-    pub fn keep(
+    // The circuit as it then is.
+    pub fn circuit(self, current: &Current) -> Circuit<'_>
+        requires { Held self current.now }
+        ensures value { decode result ≡ (state_of self current.now).circuit }
+        ensures well_formed { WellFormed result }
+    {
+        Circuit::of(&current.table[..self.end])
+    }
+
+    // Goes on with a circuit that is kept, whose pair is `new`, and trims it.
+    fn keep(
         self,
-        kept: &[u32],
-        depths: &mut [u32],
-        reverse: &[u32],
-        current: &mut [u32],
-        work: &mut [u32],
+        kept: &Circuit<'_>,
+        new: DepthPair,
+        current: &mut Current,
+        w: &mut Workspace,
     ) -> Run
         requires well_formed { WellFormed kept.now }
-        requires self_value { run_pair self ≡ pair_of (decode kept.now) }
-        requires kept_in_bounds { (refs kept.now ≤ length depths.old) × (take (refs kept.now) depths.old ≡ depths_of (decode kept.now)) }
-        requires kept_in_bounds_2 { (refs kept.now ≤ length reverse.now) × (take (refs kept.now) reverse.now ≡ reverse_depths (decode kept.now)) }
-        requires max_references_in_bounds { max_references ≤ length current.old }
-        requires max_table_in_bounds { max_table ≤ length work.old }
-        ensures work_after { state_of result work.new ≡ record { circuit = trim (decode kept.now); kept = self.kept } }
-        ensures held { Held result work.new }
-        ensures depths_held { DepthsHeld result work.new current.new }
+        requires measured { Measured kept.now w.old }
+        requires new_value { new ≡ pair_of (decode kept.now) }
+        requires kept_lt_max_sites { self.kept < max_sites }
+        ensures value { state_of result current.new ≡ record { circuit = trim (decode kept.now); kept = self.kept + 1 } }
+        ensures held { Held result current.new }
     {
-        trim_depths(kept, reverse, depths, current);
-        let end = trim_by_reverse_depths(kept, reverse, depths, work);
+        let end = trim_into(kept, w, &mut current.table, &mut current.depths);
         Run {
-            end: end,
-            depth: self.depth,
-            critical: self.critical,
-            kept: self.kept,
+            end,
+            pair: new,
+            kept: self.kept + 1,
         }
     }
 
-    // What the circuit after replacement, whose table `candidate` is and whose depths `depths` begins with, leaves: it is kept if its pair is
-    // lower. A deeper one is not, whatever its critical count.
+    // The depths of the circuit after replacement of a gate, whose table `candidate` is, worked out from that gate on.
+    fn measure(
+        self,
+        current: &Current,
+        candidate: &Circuit<'_>,
+        gate: u32,
+        depths: &mut [u32; MAX_REFERENCES],
+    )
+        requires held { Held self current.now }
+        requires same_below { SameBelow (state_of self current.now).circuit gate candidate.now }
+        ensures depths_after { take (refs candidate.now) depths.new ≡ depths_of (decode candidate.now) }
+        ensures well_formed { WellFormed candidate.now }
+    {
+        let start = gate - candidate.first_gate();
+        copy_over(&current.depths[..gate as usize], depths);
+        depths_from(candidate, start as usize, depths);
+    }
+
+    // What the circuit after replacement leaves: it is kept if its pair is lower. A deeper one is not, whatever its critical count.
     fn settle(
         self,
-        candidate: &[u32],
-        depths: &mut [u32],
-        reverse: &mut [u32],
-        current: &mut [u32],
-        work: &mut [u32],
-    ) -> Stepped
-        requires well_formed { WellFormed candidate.now }
-        requires candidate_in_bounds { (refs candidate.now ≤ length depths.old) × (take (refs candidate.now) depths.old ≡ depths_of (decode candidate.now)) }
-        requires max_references_in_bounds { (max_references ≤ length reverse.old) × (max_references ≤ length current.old) }
-        requires held { Held self work.old }
-        requires depths_held { DepthsHeld self work.old current.old }
-        requires kept_lt_max_sites { self.kept < max_sites }
-        ensures work_after { step_of result work.new ≡ settled (state_of self work.old) (decode candidate.now) }
-        ensures held_2 { Held result.run work.new }
-        ensures depths_held_2 { DepthsHeld result.run work.new current.new }
-    {
-        let deepest = output_depth(candidate, depths);
-        if self.depth < deepest {
-            return Stepped {
-                run: self,
-                verdict: NOT_LOWER,
-            };
-        }
-        let critical = critical_with_reverse_depths(candidate, depths, deepest, reverse);
-        let next = self.compare(DepthPair {
-            depth: deepest,
-            critical: critical,
-        });
-        let verdict = next.verdict;
-        match verdict {
-            NOT_LOWER => next,
-            PASSES | _ => {
-                let run = next.run;
-                Stepped {
-                    run: run.keep(candidate, depths, reverse, current, work),
-                    verdict: verdict,
-                }
-            }
-        }
-    }
-
-    // The same of the circuit after replacement of a gate, whose depths are worked out from that gate on, into `depths`.
-    fn measure_and_settle(
-        self,
-        candidate: &[u32],
+        candidate: &Circuit<'_>,
         gate: u32,
-        depths: &mut [u32],
-        reverse: &mut [u32],
-        current: &mut [u32],
-        work: &mut [u32],
-    ) -> Stepped
-        requires well_formed { WellFormed candidate.now }
-        requires candidate_bound { (first_gate (inputs candidate.now) ≤ gate) × (gate ≤ refs candidate.now) }
-        requires current_value { take gate current.old ≡ take gate (depths_of (decode candidate.now)) }
-        requires max_references_in_bounds { (max_references ≤ length depths.old) × (max_references ≤ length reverse.old) }
-        requires max_references_in_bounds_2 { max_references ≤ length current.old }
-        requires held { Held self work.old }
-        requires depths_held { DepthsHeld self work.old current.old }
+        current: &mut Current,
+        w: &mut Workspace,
+    ) -> Result<Run, Verdict>
+        requires held { Held self current.old }
+        requires same_below { SameBelow (state_of self current.old).circuit gate candidate.now }
         requires kept_lt_max_sites { self.kept < max_sites }
-        ensures work_after { step_of result work.new ≡ settled (state_of self work.old) (decode candidate.now) }
-        ensures held_2 { Held result.run work.new }
-        ensures depths_held_2 { DepthsHeld result.run work.new current.new }
+        ensures value { step_of (stepped_by self result) current.new ≡ settled (state_of self current.old) (decode candidate.now) }
+        ensures held_after { Held (stepped_by self result).run current.new }
     {
-        let from = gate as usize;
-        copy_over(&current[..from], depths);
-        depths_from(
-            candidate,
-            (gate - (candidate[0] + CONSTANTS)) as usize,
-            depths,
-        );
-        self.settle(candidate, depths, reverse, current, work)
+        self.measure(current, candidate, gate, &mut w.depths);
+        let depth = output_depth(candidate, &w.depths);
+        if self.pair.depth < depth {
+            return Err(Verdict::NotLower);
+        }
+        let critical = critical_with_reverse_depths(candidate, &w.depths, depth, &mut w.reverse);
+        let new = DepthPair { depth, critical };
+        let is_lower = new < self.pair;
+        if is_lower {
+            return Ok(self.keep(candidate, new, current, w));
+        }
+        Err(Verdict::NotLower)
     }
 
-    // The next run and the verdict, of a site by its three numbers. The circuit after replacement goes into `candidate`, its depths into
-    // `depths`; of these and of `reverse` nothing is asked before or after. What is found of the rule stays in `known`. A site that does not
-    // match costs what its rule's gates do, whatever the circuit has.
-    pub fn step(
+    // The next run if a site, by its three numbers, is kept, or else its verdict. The table after replacement goes into `work`; of that and of
+    // `w` nothing is asked before or after. What is found of the rule stays in `known`. A site that does not match costs what its rule's
+    // gates do, whatever the circuit has.
+    fn rewrite_at<'a>(
         self,
-        rules: &[u32],
-        rule: u32,
+        rules: &Rules<'a>,
+        number: u32,
         gate: u32,
         mask: u32,
-        known: &mut [usize; RULE_NUMBERS],
-        candidate: &mut [u32],
-        depths: &mut [u32],
-        reverse: &mut [u32],
-        current: &mut [u32],
+        known: &mut Judgements<'a>,
+        current: &mut Current,
+        w: &mut Workspace,
+        work: &mut [u32],
+    ) -> Result<Run, Verdict>
+        requires remembered { Remembered rules.now.table.now known.old }
+        requires max_table_in_bounds { max_table ≤ length work.old }
+        requires held { Held self current.old }
+        requires kept_lt_max_sites { self.kept < max_sites }
+        ensures value { step_of (stepped_by self result) current.new ≡
+            step rules.now.table.now (state_of self current.old) (site number gate mask) }
+        ensures held_after { Held (stepped_by self result).run current.new }
+        ensures remembered_2 { Remembered rules.now.table.now known.new }
+    {
+        let rule = rules.judged_once(number, known)?;
+        let circuit = self.circuit(current);
+        let b = match_judged(&circuit, &rule, gate, mask)?;
+        check_size(&circuit, &rule)?;
+        let end = replace(&circuit, &rule, gate, &b, work);
+        self.settle(&Circuit::of(&work[..end]), gate, current, w)
+    }
+
+    // What a site leaves, by its three numbers, and its verdict. A verdict leaves the run as it was.
+    fn step<'a>(
+        self,
+        rules: &Rules<'a>,
+        number: u32,
+        gate: u32,
+        mask: u32,
+        known: &mut Judgements<'a>,
+        current: &mut Current,
+        w: &mut Workspace,
         work: &mut [u32],
     ) -> Stepped
-        requires well_formed_rules { WellFormedRules rules.now }
-        requires remembered { Remembered rules.now known.old }
-        requires max_table_in_bounds { max_table ≤ length candidate.old }
-        requires max_references_in_bounds { (max_references ≤ length depths.old) × (max_references ≤ length reverse.old) }
-        requires max_references_in_bounds_2 { max_references ≤ length current.old }
-        requires held { Held self work.old }
-        requires depths_held { DepthsHeld self work.old current.old }
+        requires remembered { Remembered rules.now.table.now known.old }
+        requires max_table_in_bounds { max_table ≤ length work.old }
+        requires held { Held self current.old }
         requires kept_lt_max_sites { self.kept < max_sites }
-        ensures work_after { step_of result work.new ≡ step rules.now (state_of self work.old) (site rule gate mask) }
-        ensures held_2 { Held result.run work.new }
-        ensures depths_held_2 { DepthsHeld result.run work.new current.new }
-        ensures remembered_2 { Remembered rules.now known.new }
+        ensures value { step_of result current.new ≡
+            step rules.now.table.now (state_of self current.old) (site number gate mask) }
+        ensures held_after { Held result.run current.new }
+        ensures remembered_2 { Remembered rules.now.table.now known.new }
     {
-        let end = self.end;
-        let judged = judged_once(rules, rule, known);
-        let p = judged.place;
-        let mut b = [0u32; BINDINGS];
-        let verdict = match_within(&work[..end], rules, p, judged.verdict, gate, mask, &mut b);
-        match verdict {
-            NO_RULE | NOT_SOUND | NOT_A_GATE | NO_MATCH | TOO_LARGE => Stepped {
+        match self.rewrite_at(rules, number, gate, mask, known, current, w, work) {
+            Ok(run) => Stepped { run, verdict: None },
+            Err(verdict) => Stepped {
                 run: self,
-                verdict: verdict,
+                verdict: Some(verdict),
             },
-            PASSES | _ => {
-                let new_end = replace(&work[..end], rules, p, gate, &b, candidate);
-                self.measure_and_settle(&candidate[..new_end], gate, depths, reverse, current, work)
-            }
         }
     }
-}
 
-// Takes the sites in order, and puts a verdict a site over the front of `verdicts`.
-pub fn run_sites(
-    start: Run,
-    rules: &[u32],
-    sites: &[u32],
-    depths: &mut [u32],
-    reverse: &mut [u32],
-    current: &mut [u32],
-    work: &mut [u32],
-    verdicts: &mut [u8],
-) -> Run
-    requires well_formed_rules { WellFormedRules rules.now }
-    requires well_formed_sites { WellFormedSites sites.now }
-    requires max_references_in_bounds { (max_references ≤ length depths.old) × (max_references ≤ length reverse.old) }
-    requires max_references_in_bounds_2 { max_references ≤ length current.old }
-    requires held { Held start work.old }
-    requires depths_held { DepthsHeld start work.old current.old }
-    requires kept_value { start.kept ≡ 0 }
-    requires max_sites_in_bounds { max_sites ≤ length verdicts.old }
-    ensures work_after { state_of result work.new ≡ after_all rules.now sites.now (state_of start work.old) }
-    ensures held_2 { Held result work.new }
-    ensures verdicts_after { verdicts.new ≡ over
-        (verdicts_on rules.now sites.now (state_of start work.old)) verdicts.old }
-{
-    let mut known = [0usize; RULE_NUMBERS];
-    let mut candidate = [0u32; MAX_TABLE];
-    let mut run = start;
-    let count = sites[0] as usize;
-    let from = sites_from(sites);
-    for i in 0..count {
-        let at = from + 3 * i;
-        let s = run.step(
-            rules,
-            sites[at],
-            sites[at + 1],
-            sites[at + 2],
-            &mut known,
-            &mut candidate,
-            depths,
-            reverse,
-            current,
-            work,
-        );
-        verdicts[i] = s.verdict as u8;
-        let next = s.run;
-        run = next;
+    // Takes the sites in order, and puts a verdict a site over the front of `verdicts`.
+    pub fn take_sites(
+        self,
+        rules: &Rules,
+        sites: &Sites,
+        current: &mut Current,
+        w: &mut Workspace,
+        work: &mut [u32],
+        verdicts: &mut [u8],
+    ) -> Run
+        requires max_table_in_bounds { max_table ≤ length work.old }
+        requires held { Held self current.old }
+        requires kept_value { self.kept ≡ 0 }
+        requires max_sites_in_bounds { max_sites ≤ length verdicts.old }
+        ensures value { state_of result current.new ≡
+            after_all rules.now.table.now sites.now.table.now (state_of self current.old) }
+        ensures held_after { Held result current.new }
+        ensures verdicts_after { verdicts.new ≡ over (verdicts_on rules.now.table.now sites.now.table.now (state_of self current.old)) verdicts.old }
+    {
+        let mut known: Judgements = [None; RULE_NUMBERS];
+        let mut run = self;
+        let (rows, _) = sites.table[HEAD..].as_chunks::<3>();
+        for (i, &[rule, gate, mask]) in rows.iter().enumerate() {
+            let stepped = run.step(rules, rule, gate, mask, &mut known, current, w, work);
+            verdicts[i] = verdict_byte(stepped.verdict);
+            run = stepped.run;
+        }
+        run
     }
-    run
 }

@@ -1,96 +1,101 @@
--- A rule's place and the judge's verdict on it: what they lead to, and how they are kept by rule number. Assumes nothing.
-use mathlib.Core.Path.{◌≡◌, refl, ap, ◌∙◌, subst}
+-- What the judge finds of a rule, its place or a verdict: what this leads to, and how it is kept by rule number. Assumes nothing.
+use mathlib.Core.Path.{◌≡◌, refl, sym, ap, ◌∙◌}
 use mathlib.Core.Bool.{Bool, true, false, not}
 use mathlib.Core.List.{List}
-use Prim.Native.Nat.{ℕ, ◌+◌, ◌/◌, ◌%◌, ◌≤◌, ◌<◌}
+use Prim.Native.Nat.{ℕ, zero, suc, ◌+◌, ◌≤◌, ◌<◌}
 use native.Mathlib.Omega.{arith}
 use lib.Dec.{eqb}
 use lib.ListN.{length, get_or, set, replicate, length-set, length-replicate}
 use lib.Seq.{get_or-set_same, get_or-set_other}
 use borrow.Author.Tests.{eqb-true, eqb-false}
+use Rattle.std.specs.Prelude.{Result, Ok, Err, Option, Some, None}
 use Rattle.lists.specs.First.{first}
-use Rattle.lists.proofs.First.{first-true, first_either}
 use Rattle.circuit.specs.Circuit.{Circuit}
 use Rattle.circuit.specs.Path.{is_gate}
-use Rattle.circuit.proofs.PassLaws.{zeros-at}
-use Rattle.rules.specs.declared.judging.JudgedRule.{JudgedRule}
+use Rattle.rules.specs.declared.Verdict.{Verdict}
+use Rattle.rules.specs.declared.Verdict.TheVariants.{NoRule, NotSound}
 use Rattle.rules.specs.Rule.{Rule, max_rules}
 use Rattle.rules.specs.RuleTable.{rule_at, place_of, rule_of}
 use Rattle.rules.specs.Soundness.{is_sound}
-use Rattle.rules.specs.Verdict.{SiteMatch, passes, no_rule, not_sound, not_a_gate, no_match, has_rule, judgement, early_verdict, failing, match_at, match_site, match_judged}
-use Rattle.rules.specs.Remembered.{judged_rule, entry_of, Remembered}
-use Rattle.rules.specs.WellFormed.{WellFormedRule, WellFormedRules}
+use Rattle.rules.specs.Verdict.{passes, no_rule, not_sound, not_a_gate, has_rule, judgement, early_verdict, failing, verdict_number, number_of, match_at, match_site, match_judged}
+use Rattle.rules.specs.Remembered.{said_or, judged_rule, Remembered}
+use Rattle.rules.specs.declared.rule.Rule.{Rule as TableRule}
+use Rattle.rules.specs.WellFormed.{WellFormedRules}
 use Rattle.rules.proofs.WalkLaws.{rule-to}
-use Rattle.rules.proofs.RefusalLaws.{each-rule-is-well-formed}
-use Rattle.rules.proofs.VerdictLaws.{early-small, at_small}
 
 module _ (t : List ℕ) (rule : ℕ) where
-  pub judged-missing : has_rule t rule ≡ false → record { place = 0; verdict = no_rule } ≡ judged_rule t rule
-  unfolding judged_rule judgement
+  pub judged-missing : has_rule t rule ≡ false → Err NoRule ≡ judged_rule t rule
+  unfolding judged_rule
   judged-missing h = rw h
 
-  -- p is where the rule begins, and v the judge's verdict
-  pub judged-there : has_rule t rule ≡ true → (p : ℕ) → p ≡ place_of t rule → (v : ℕ) → v ≡ first (not (is_sound (rule_at t p))) not_sound passes
-      → record { place = p; verdict = v } ≡ judged_rule t rule
-  unfolding judged_rule judgement
-  judged-there h p e v f = rw (h, f, e)
+  -- p is where the rule begins
+  module _ (h : has_rule t rule ≡ true) (p : ℕ) (e : p ≡ place_of t rule) where
+    pub judged-unsound : is_sound (rule_at t p) ≡ false → Err NotSound ≡ judged_rule t rule
+    unfolding judged_rule
+    judged-unsound s = rw (h, ← e, s)
+
+    pub judged-sound : is_sound (rule_at t p) ≡ true → Ok (rule_at t p) ≡ judged_rule t rule
+    unfolding judged_rule
+    judged-sound s = rw (h, ← e, s)
 
   -- a number that no table has
-  pub judged-beyond : WellFormedRules t → max_rules < rule → record { place = 0; verdict = no_rule } ≡ judged_rule t rule
+  pub judged-beyond : WellFormedRules t → max_rules < rule → Err NoRule ≡ judged_rule t rule
   judged-beyond w h = judged-missing (go (has_rule t rule) refl)
     where
       go : (b : Bool) → has_rule t rule ≡ b → has_rule t rule ≡ false
       go true e = let no_way : ⊥ = omega (arith, rule-to t rule e, w.sized.count-limit) in absurd no_way
       go false e = e
 
-  either : (P : JudgedRule → Type 0) → P (record { place = 0; verdict = no_rule })
-      → (has_rule t rule ≡ true → P (record { place = place_of t rule; verdict = first (not (is_sound (rule_of t rule))) not_sound passes }))
-      → P (judged_rule t rule)
-  either P x y = go (has_rule t rule) refl
+  pub judged-number : number_of (judged_rule t rule) ≡ judgement t rule
+  unfolding judged_rule judgement
+  judged-number = go (has_rule t rule) (is_sound (rule_of t rule))
     where
-      go : (b : Bool) → has_rule t rule ≡ b → P (judged_rule t rule)
-      go true h = subst P (judged-there h (place_of t rule) refl _ refl) (y h)
-      go false h = subst P (judged-missing h) x
+      go : (h s : Bool)
+          → number_of (first (not h) (Err NoRule) (first (not s) (Err NotSound) (Ok (rule_of t rule))))
+          ≡ first (not h) no_rule (first (not s) not_sound passes)
+      go true true = refl
+      go true false = refl
+      go false s = refl
 
-  -- j is what was found
-  module _ (j : JudgedRule) (e : j ≡ judged_rule t rule) where
-    pub judged-small : j.verdict ≤ not_sound
-    judged-small =
-        rw e
-        (either (λ (j : JudgedRule). j.verdict ≤ not_sound) (omega arith)
-        (λ h. first_either (λ v. v ≤ not_sound) (not (is_sound (rule_of t rule))) (omega arith) (omega arith)))
-
-    pub judged-verdict : j.verdict ≡ judgement t rule
+  -- the judge has passed the rule, which is u
+  module _ (u : Rule) (e : Ok u ≡ judged_rule t rule) where
+    pub judged-facts : (has_rule t rule ≡ true) × (is_sound (rule_of t rule) ≡ true) × (u ≡ rule_of t rule)
     unfolding judged_rule
-    judged-verdict = ap (λ (j : JudgedRule). j.verdict) e
-
-    pub judged-place : has_rule t rule ≡ true → j.place ≡ place_of t rule
-    unfolding judged_rule
-    judged-place h = ap (λ (j : JudgedRule). j.place) e ∙ first-true (place_of t rule) 0 h
-
-    module _ (w : WellFormedRules t) where
-      pub judged-rule : j.verdict ≡ passes → WellFormedRule t j.place
-      judged-rule =
-          rw e
-          (either (λ (j : JudgedRule). j.verdict ≡ passes → WellFormedRule t j.place) (λ z. let no_way : ⊥ = omega arith in absurd no_way)
-          (λ h z. (each-rule-is-well-formed t w rule h).0))
-
-      pub judged-within : j.place ≤ length t
-      judged-within = rw e (either (λ (j : JudgedRule). j.place ≤ length t) (omega arith) (λ h. omega (arith, (each-rule-is-well-formed t w rule h).0.sized)))
-
-    pub site-judged : (c : Circuit) (gate mask : ℕ) → match_judged c (rule_at t j.place) j.verdict gate mask ≡ match_site c t rule gate mask
-    unfolding judged_rule judgement match_site
-    site-judged c gate mask = rw e (go (has_rule t rule) (is_sound (rule_of t rule)))
+    judged-facts = go (has_rule t rule) (is_sound (rule_of t rule)) e
       where
-        go : (b s : Bool)
-            → match_judged c (rule_at t (first b (place_of t rule) 0)) (first (not b) no_rule (first (not s) not_sound passes)) gate mask
-            ≡ first (not b) (failing no_rule)
+        go : (h s : Bool) → Ok u ≡ first (not h) (Err NoRule) (first (not s) (Err NotSound) (Ok (rule_of t rule)))
+            → (h ≡ true) × (s ≡ true) × (u ≡ rule_of t rule)
+        go true true q = (refl, refl, cc)
+        go true false q = cc
+        go false s q = cc
+
+    pub judged-site : (c : Circuit) (gate mask : ℕ) → match_judged c u passes gate mask ≡ match_site c t rule gate mask
+    unfolding match_site
+    judged-site c gate mask = rw (judged-facts.2, judged-facts.0, judged-facts.1)
+
+  -- the judge's verdict on the rule is v
+  module _ (v : Verdict) (e : Err v ≡ judged_rule t rule) where
+    pub judged-verdict : verdict_number v ≡ judgement t rule
+    judged-verdict = ap number_of e ∙ judged-number
+
+    pub refused-site : (c : Circuit) (gate mask : ℕ) → failing (verdict_number v) ≡ match_site c t rule gate mask
+    unfolding judged_rule match_site
+    refused-site c gate mask = go (has_rule t rule) (is_sound (rule_of t rule)) e
+      where
+        go : (h s : Bool) → Err v ≡ first (not h) (Err NoRule) (first (not s) (Err NotSound) (Ok (rule_of t rule)))
+            → failing (verdict_number v)
+            ≡ first (not h) (failing no_rule)
             (first (not s) (failing not_sound)
             (first (not (is_gate c gate)) (failing not_a_gate)
             (match_at c (rule_of t rule) gate mask)))
-        go true true = refl
-        go true false = refl
-        go false s = refl
+        go true true q = cc
+        go true false q = let k : v ≡ NotSound = cc in ap (λ x. failing (verdict_number x)) k
+        go false s q = let k : v ≡ NoRule = cc in ap (λ x. failing (verdict_number x)) k
+
+-- a rule, and what is said of it, pass alike
+pub said-number : (r : Result TableRule Verdict) → number_of r ≡ number_of (said_or r)
+said-number (Ok u) = refl
+said-number (Err v) = refl
 
 -- the verdicts before the match, of the rule of a number
 module _ (c : Circuit) (t : List ℕ) (rule gate : ℕ) where
@@ -98,8 +103,14 @@ module _ (c : Circuit) (t : List ℕ) (rule gate : ℕ) where
   early = early_verdict c (judgement t rule) gate
 
   pub early-limit : early ≤ not_a_gate
-  unfolding judged_rule
-  early-limit = early-small c gate (judgement t rule) early refl (judged-small t rule (judged_rule t rule) refl)
+  unfolding judgement
+  early-limit = go (has_rule t rule) (is_sound (rule_of t rule)) (is_gate c gate)
+    where
+      go : (h s g : Bool) → (let j = first (not h) no_rule (first (not s) not_sound passes) in first (eqb j passes) (first (not g) not_a_gate passes) j ≤ not_a_gate)
+      go true true true = omega arith
+      go true true false = omega arith
+      go true false g = omega arith
+      go false s g = omega arith
 
   pub early-none : early ≡ passes → (has_rule t rule ≡ true) × (is_sound (rule_of t rule) ≡ true) × (is_gate c gate ≡ true)
   unfolding judgement
@@ -127,49 +138,36 @@ module _ (c : Circuit) (t : List ℕ) (rule gate : ℕ) where
       go true false g n = refl
       go false s g n = refl
 
--- the match of a rule of which the judge said j
-module _ (c : Circuit) (u : Rule) (j gate mask : ℕ) where
-  pub judged-match-small : j ≤ not_sound → (match_judged c u j gate mask).verdict ≤ no_match
-  judged-match-small h =
-      first_either (λ (m : SiteMatch). m.verdict ≤ no_match) (not (eqb j passes)) (omega arith)
-      (first_either (λ (m : SiteMatch). m.verdict ≤ no_match) (not (is_gate c gate)) (omega arith) (at_small c u gate mask))
-
-  pub judged-match-zero : (match_judged c u j gate mask).verdict ≡ passes → j ≡ passes
-  judged-match-zero e = go (eqb j passes) refl
-    where
-      go : (b : Bool) → eqb j passes ≡ b → j ≡ passes
-      go true h = eqb-true j passes h
-      go false h = rw h at e
-
 -- ---- kept by rule number
 
+abbrev no_entry : Option (Result TableRule Verdict)
+no_entry = None
+
+none_at : (n r : ℕ) → get_or (replicate n no_entry) r None ≡ no_entry
+none_at zero r = refl
+none_at (suc n) zero = refl
+none_at (suc n) (suc r) = none_at n r
+
 module _ (t : List ℕ) where
-  pub remembered-none : (known : List ℕ) → known ≡ replicate {A = ℕ} (max_rules + 1) 0 → Remembered t known
+  pub remembered-none : (known : List (Option (Result TableRule Verdict))) → known ≡ replicate (max_rules + 1) None → Remembered t known
   remembered-none known e =
       record {
-        long = ap length e ∙ length-replicate {A = ℕ} (max_rules + 1) 0;
-        right = λ r n. absurd (n (ap (λ k. get_or k r 0) e ∙ zeros-at (max_rules + 1) r));
+        long = ap length e ∙ length-replicate (max_rules + 1) no_entry;
+        right = λ r j h. let z : no_entry ≡ Some j = sym (none_at (max_rules + 1) r) ∙ sym (ap (λ k. get_or k r None) e) ∙ h in cc;
       }
 
-  module _ (known : List ℕ) (m : Remembered t known) (rule : ℕ) where
-    pub remembered-rule : (get_or known rule 0 ≡ 0 → ⊥) → record { place = get_or known rule 0 / 4; verdict = get_or known rule 0 % 4 } ≡ judged_rule t rule
-    remembered-rule n =
-        let j = judged_rule t rule in
-        let e = m.right rule n in
-        let small = judged-small t rule j refl in
-        let p : get_or known rule 0 / 4 ≡ j.place = omega (arith, e, small) in
-        let v : get_or known rule 0 % 4 ≡ j.verdict = omega (arith, e, small) in
-        rw (p, v)
-
-    pub remembered-more : rule ≤ max_rules → (j : JudgedRule) → j ≡ judged_rule t rule → Remembered t (set known rule (entry_of j))
-    remembered-more h j e =
+  module _ (known : List (Option (Result TableRule Verdict))) (m : Remembered t known) (rule : ℕ) (h : rule ≤ max_rules) where
+    pub remembered-more : (j : Result TableRule Verdict) → said_or j ≡ judged_rule t rule → Remembered t (set known rule (Some j))
+    remembered-more j e =
         record {
-          long = length-set known rule (entry_of j) ∙ m.long;
-          right = λ r. go r (eqb r rule) refl;
+          long = length-set known rule (Some j) ∙ m.long;
+          right = λ r k. go r k (eqb r rule) refl;
         }
       where
-        go : (r : ℕ) (b : Bool) → eqb r rule ≡ b → (get_or (set known rule (entry_of j)) r 0 ≡ 0 → ⊥) → get_or (set known rule (entry_of j)) r 0 ≡ entry_of (judged_rule t r)
-        go r true q n = rw (eqb-true r rule q) (get_or-set_same known rule (entry_of j) 0 (omega (arith, m.long)) ∙ ap entry_of e)
-        go r false q n =
-            let other = get_or-set_other known rule r (entry_of j) 0 (eqb-false r rule q) in
-            other ∙ m.right r (λ z. n (other ∙ z))
+        go : (r : ℕ) (k : Result TableRule Verdict) (b : Bool) → eqb r rule ≡ b → get_or (set known rule (Some j)) r None ≡ Some k → said_or k ≡ judged_rule t r
+        go r k true q n =
+            let same = get_or-set_same known rule (Some j) None (omega (arith, m.long)) in
+            let z : Some j ≡ Some k = sym same ∙ (rw (eqb-true r rule q) at n) in
+            let y : k ≡ j = cc in
+            rw (eqb-true r rule q) (ap said_or y ∙ e)
+        go r k false q n = m.right r k (sym (get_or-set_other known rule r (Some j) None (eqb-false r rule q)) ∙ n)

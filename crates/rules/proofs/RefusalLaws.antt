@@ -97,10 +97,6 @@ module _ (t : List ℕ) where
 
   -- ---- the refusal, as one walk finds it
 
-  pub rules-partial : is_partial 3 t ≡ true → 1 ≡ rules_refusal t
-  unfolding rules_refusal
-  rules-partial e = rw e
-
   pub rules-walk : is_partial 3 t ≡ false → (walk_from_top t ≡ 0 → ⊥) → walk_from_top t ≡ rules_refusal t
   unfolding rules_refusal
   rules-walk w n = rw (w, ne_eqb (walk_from_top t) 0 n)

@@ -18,7 +18,7 @@ use Rattle.circuit.specs.Fold.{gate_value}
 use Rattle.circuit.specs.Evaluation.{bit_op}
 use Rattle.circuit.proofs.TableLaws.{lines-length, step_from}
 use Rattle.circuit.proofs.LoopLaws.{value_read}
-use Rattle.rules.specs.RuleTable.{holes_at, lefts_at, rights_at, left_from, right_from, closing_from, rule_at}
+use Rattle.rules.specs.RuleTable.{holes_at, lefts_at, left_from, rule_at}
 use Rattle.rules.specs.Soundness.{side_value}
 use Rattle.rules.specs.Words.{start_words, same_words}
 use Rattle.rules.proofs.LineLaws.{operands-at}
@@ -51,14 +51,12 @@ module _ (t : List ℕ) (q n m size : ℕ) (start : List ℕ) where
       ∙ ap (take m) (filled-all (gate_value bit_op 0) (lines_of n (drop q t)) start m size d i f (omega (arith, lines-length n (drop q t))))
       ∙ each-begin (gate_value bit_op 0) (lines_of n (drop q t)) start m l
 
--- the compare of both sides' words, where they were read off for the rule at number p: its lines at q and q', its closing line at e, both
--- from the words of the constants and holes
-pub side-compare : (t : List ℕ) (p n from x y q q' e : ℕ) (v v' : List ℕ)
-    → x ≡ side_value (lines_of (lefts_at t p) (drop q t)) (first_gate (holes_at t p) + lefts_at t p - 1) v → q ≡ left_from t p → v ≡ start_words n from (holes_at t p)
-    → y ≡ side_value (lines_of (rights_at t p) (drop q' t)) (get_or t (e + 1) 0) v' → q' ≡ right_from t p → e ≡ closing_from t p → v' ≡ start_words n from (holes_at t p)
+-- the compare of both sides' words, as they were read off for the rule at number p
+pub side-compare : (t : List ℕ) (p n from x y : ℕ)
+    → x ≡ side_value (rule_at t p).lefts (first_gate (holes_at t p) + lefts_at t p - 1) (start_words n from (holes_at t p))
+    → y ≡ side_value (rule_at t p).rights (rule_at t p).closing (start_words n from (holes_at t p))
     → eqb x y ≡ same_words n from (rule_at t p)
-side-compare t p n from x y q q' e v v' ex qx vx ey qy ee vy =
+side-compare t p n from x y ex ey =
     ap₂ eqb
-    (ex ∙ ap₂ (λ q v. side_value (lines_of (lefts_at t p) (drop q t)) (first_gate (holes_at t p) + lefts_at t p - 1) v) qx vx
-    ∙ ap (λ k. side_value (rule_at t p).lefts (first_gate (holes_at t p) + k - 1) (start_words n from (holes_at t p))) (sym (lines-length (lefts_at t p) (drop (left_from t p) t))))
-    (ey ∙ ap₂ (λ q e. side_value (lines_of (rights_at t p) (drop q t)) (get_or t (e + 1) 0) v') qy ee ∙ ap (side_value (rule_at t p).rights (rule_at t p).closing) vy)
+    (ex ∙ ap (λ k. side_value (rule_at t p).lefts (first_gate (holes_at t p) + k - 1) (start_words n from (holes_at t p))) (sym (lines-length (lefts_at t p) (drop (left_from t p) t))))
+    ey

@@ -48,10 +48,6 @@ module _ (t : List ℕ) where
 
   -- ---- the refusal, test by test
 
-  pub sites-partial : is_partial 3 t ≡ true → 1 ≡ sites_refusal t
-  unfolding sites_refusal
-  sites-partial e = rw e
-
   module _ (w : is_partial 3 t ≡ false) where
     pub sites-head : sites_head_in_limits t ≡ false → 4 ≡ sites_refusal t
     unfolding sites_refusal
@@ -60,10 +56,6 @@ module _ (t : List ℕ) where
     pub sites-lines : sites_head_in_limits t ≡ true → sites_as_head_says t ≡ false → 5 ≡ sites_refusal t
     unfolding sites_refusal
     sites-lines h e = rw (w, h, e)
-
-    pub sites-accepted : sites_head_in_limits t ≡ true → sites_as_head_says t ≡ true → 0 ≡ sites_refusal t
-    unfolding sites_refusal
-    sites-accepted h e = rw (w, h, e)
 
 pub accepted-sites-are-well-formed : AcceptedSitesAreWellFormed
 accepted-sites-are-well-formed t = (accepted t, well-formed-sites-accepted t)

@@ -9,16 +9,22 @@ use native.Mathlib.Omega.{arith}
 use lib.Dec.{eqb}
 use lib.ListN.{length, drop}
 use borrow.Author.Tests.{eq-eqb, ne_eqb, lt-ltb, le-ltb}
+use Rattle.std.specs.Prelude.{◌+◌, Result, Ok, Err}
+use denote.Enum.Declared.{tag_of}
+use Rattle.std.specs.Result.{result_err}
 use Rattle.lists.specs.First.{first}
 use Rattle.lists.proofs.First.{first-true, first-false, first_either}
 use Rattle.circuit.specs.Circuit.{Circuit, constants, first_gate, references}
 use Rattle.circuit.specs.Path.{is_gate}
+use Rattle.rules.specs.contracts.Verdict.{the_type}
+use Rattle.rules.specs.declared.Verdict.{Verdict}
+use Rattle.rules.specs.declared.Verdict.TheVariants.{NoRule, NotSound, NotAGate, NoMatch, TooLarge, NotLower}
 use Rattle.rules.specs.declared.ReferenceKind.TheVariants.{Constant, Input, Gate, Beyond}
 use Rattle.rules.specs.Rule.{Rule}
 use Rattle.rules.specs.RuleTable.{lefts_at, left_from, rule_at, rule_of}
 use Rattle.rules.specs.Soundness.{is_sound}
 use Rattle.rules.specs.Match.{match_gates, start_bindings, match_rule, attempt}
-use Rattle.rules.specs.Verdict.{SiteMatch, passes, not_sound, not_a_gate, no_match, has_rule, kind_of, kind_verdict, early_verdict, failing, given_with, verdict_by, match_at, match_site, match_judged}
+use Rattle.rules.specs.Verdict.{SiteMatch, passes, not_a_gate, no_match, has_rule, kind_of, kind_verdict, early_verdict, verdict_number, applied_number, number_of, match_of, failing, verdict_by, match_at, match_site, match_judged}
 use Rattle.rules.specs.Theorems.{KindAsksForGate}
 use Rattle.circuit.proofs.TableLaws.{lines-length}
 use Rattle.circuit.proofs.GateLaws.{is-gate, gate-low, gate-high}
@@ -63,62 +69,56 @@ module _ (c : Circuit) (v : ℕ) where
 pub kind-asks-for-gate : KindAsksForGate
 kind-asks-for-gate c v = kind-verdict c v
 
--- ---- the verdicts before the match: v is the first of them that applies, where the judge said j
+-- ---- the verdicts before the match
 
-module _ (c : Circuit) (gate j v : ℕ) (e : v ≡ early_verdict c j gate) where
-  of-judge : eqb j passes ≡ false → v ≡ j
-  of-judge h = e ∙ first-false (first (not (is_gate c gate)) not_a_gate passes) j h
+pub verdict_some : (v : Verdict) → verdict_number v ≡ passes → ⊥
+verdict_some NoRule e = omega arith
+verdict_some NotSound e = omega arith
+verdict_some NotAGate e = omega arith
+verdict_some NoMatch e = omega arith
+verdict_some TooLarge e = omega arith
+verdict_some NotLower e = omega arith
 
-  of-kind : eqb j passes ≡ true → v ≡ first (not (is_gate c gate)) not_a_gate passes
-  of-kind h = e ∙ first-true (first (not (is_gate c gate)) not_a_gate passes) j h
+-- the discriminant, as the code casts it
+pub discriminant-number : (v : Verdict) → tag_of the_type v + 1 ≡ verdict_number v
+discriminant-number NoRule = refl
+discriminant-number NotSound = refl
+discriminant-number NotAGate = refl
+discriminant-number NoMatch = refl
+discriminant-number TooLarge = refl
+discriminant-number NotLower = refl
 
-  pub early-small : j ≤ not_sound → v ≤ not_a_gate
-  early-small h =
-      rw e
-      (first_either (λ x. x ≤ not_a_gate) (eqb j passes)
-      (first_either (λ x. x ≤ not_a_gate) (not (is_gate c gate)) (omega arith) (omega arith)) (omega arith))
+-- what is handed on of a Result
+pub err-number : {A : Type 0} (r : Result A Verdict) → applied_number (result_err r) ≡ number_of r
+err-number (Ok a) = refl
+err-number (Err v) = refl
 
-  -- none of them applies
-  module _ (z : v ≡ passes) where
-    pub early-judge : eqb j passes ≡ true
-    early-judge = go (eqb j passes) refl
-      where
-        go : (b : Bool) → eqb j passes ≡ b → eqb j passes ≡ true
-        go true h = h
-        go false h = eq-eqb j passes (sym (of-judge h) ∙ z)
+pub err-verdict : (r : Result (List ℕ) Verdict) → applied_number (result_err r) ≡ (match_of r).verdict
+err-verdict (Ok b) = refl
+err-verdict (Err v) = refl
 
-    pub early-gate : is_gate c gate ≡ true
-    early-gate = go (is_gate c gate) refl
-      where
-        go : (b : Bool) → is_gate c gate ≡ b → is_gate c gate ≡ true
-        go true k = k
-        go false k =
-            let three : v ≡ not_a_gate = of-kind early-judge ∙ first-true not_a_gate passes (ap not k) in
-            let no_way : ⊥ = omega arith in
-            absurd no_way
+-- of a rule that the judge has passed
+module _ (c : Circuit) (gate : ℕ) where
+  pub early-gate : passes ≡ early_verdict c passes gate → is_gate c gate ≡ true
+  early-gate = go (is_gate c gate)
+    where
+      go : (b : Bool) → passes ≡ first (not b) not_a_gate passes → b ≡ true
+      go true e = refl
+      go false e = let no_way : ⊥ = omega arith in absurd no_way
 
-  module _ (u : Rule) (mask : ℕ) where
-    pub judged-at : v ≡ passes → match_at c u gate mask ≡ match_judged c u j gate mask
-    judged-at z = rw (early-judge z, early-gate z)
+  pub early-passed : passes ≡ early_verdict c passes gate → (u : Rule) (mask : ℕ) → match_at c u gate mask ≡ match_judged c u passes gate mask
+  early-passed e u mask = rw (early-gate e)
 
-    -- one of them applies, and b is of no use
-    pub judged-failing : (b : List ℕ) → (v ≡ passes → ⊥) → given_with b v ≡ match_judged c u j gate mask
-    judged-failing b n = first-false _ _ (ne_eqb v passes n) ∙ go (eqb j passes) refl (is_gate c gate) refl
-      where
-        go : (a : Bool) → eqb j passes ≡ a → (b : Bool) → is_gate c gate ≡ b
-            → failing v ≡ match_judged c u j gate mask
-        go false h b k = rw h (ap failing (of-judge h))
-        go true h true k = absurd (n (of-kind h ∙ first-false not_a_gate passes (ap not k)))
-        go true h false k = rw (h, k) (ap failing (of-kind h ∙ first-true not_a_gate passes (ap not k)))
+  pub early-failing : (v : Verdict) → verdict_number v ≡ early_verdict c passes gate → (u : Rule) (mask : ℕ)
+      → failing (verdict_number v) ≡ match_judged c u passes gate mask
+  early-failing v e u mask = go (is_gate c gate) e
+    where
+      go : (b : Bool) → verdict_number v ≡ first (not b) not_a_gate passes
+          → failing (verdict_number v) ≡ first (not b) (failing not_a_gate) (match_at c u gate mask)
+      go true q = absurd (verdict_some v q)
+      go false q = ap failing q
 
 -- ---- the match
-
-pub given-verdict : (b : List ℕ) (v : ℕ) → (given_with b v).verdict ≡ v
-given-verdict b v = go (eqb v passes)
-  where
-    go : (x : Bool) → (first x (record { verdict = v; bindings = b }) (failing v)).verdict ≡ v
-    go true = refl
-    go false = refl
 
 module _ (c : Circuit) (u : Rule) (gate mask : ℕ) where
   beyond : (mask / 2 ^ length u.lefts ≡ 0 → ⊥) → failing no_match ≡ match_at c u gate mask
@@ -142,8 +142,8 @@ module _ (c : Circuit) (t : List ℕ) (p gate mask : ℕ) where
   count : length (rule_at t p).lefts ≡ lefts_at t p
   count = lines-length (lefts_at t p) (drop (left_from t p) t)
 
-  pub at-beyond : (b : List ℕ) → (mask / 2 ^ lefts_at t p ≡ 0 → ⊥) → given_with b no_match ≡ match_at c (rule_at t p) gate mask
-  at-beyond b h = beyond c (rule_at t p) gate mask (λ e. h (ap (λ k. mask / 2 ^ k) (sym count) ∙ e))
+  pub at-beyond : (mask / 2 ^ lefts_at t p ≡ 0 → ⊥) → failing no_match ≡ match_at c (rule_at t p) gate mask
+  at-beyond h = beyond c (rule_at t p) gate mask (λ e. h (ap (λ k. mask / 2 ^ k) (sym count) ∙ e))
 
   module _ (d : List ℕ) (z : d ≡ start_bindings (rule_at t p) gate) (x : Bool) (b : List ℕ) (h : mask / 2 ^ lefts_at t p ≡ 0)
       (e : attempt x b ≡ match_gates c (rule_at t p) mask (lefts_at t p) d) where
@@ -152,10 +152,10 @@ module _ (c : Circuit) (t : List ℕ) (p gate mask : ℕ) where
         ap verdict_by (e ∙ ap (match_gates c (rule_at t p) mask (lefts_at t p)) z ∙ match-start c t p gate mask)
         ∙ mask-within c (rule_at t p) gate mask (ap (λ k. mask / 2 ^ k) count ∙ h)
 
-    pub at_some : x ≡ true → given_with b passes ≡ match_at c (rule_at t p) gate mask
+    pub at_some : x ≡ true → record { verdict = passes; bindings = b } ≡ match_at c (rule_at t p) gate mask
     at_some q = ap (λ y. verdict_by (attempt y b)) (sym q) ∙ at-found
 
-    pub at_none : x ≡ false → given_with b no_match ≡ match_at c (rule_at t p) gate mask
+    pub at_none : x ≡ false → failing no_match ≡ match_at c (rule_at t p) gate mask
     at_none q = ap (λ y. verdict_by (attempt y b)) (sym q) ∙ at-found
 
 module _ (c : Circuit) (t : List ℕ) (rule gate mask : ℕ) where

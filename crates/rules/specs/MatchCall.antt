@@ -1,21 +1,19 @@
 -- The call `match_site` (01, Sites, 20): what it gives back, for every input.
-use Rattle.std.specs.Prelude.{ℕ, List, [], ◌∷◌}
+use Rattle.std.specs.Prelude.{ℕ, List, [], ◌∷◌, Option, Result as Returned}
 use Rattle.lines.specs.Text.{is_partial}
-use Rattle.lines.specs.declared.Refusal.{Refusal}
-use Rattle.lines.specs.Refusal.{Result, refused, gives}
+use Rattle.lines.specs.declared.refusing.Refusal.{Refusal as GivenRefusal}
+use Rattle.lines.specs.Refusal.{Refusal, Result, answer_of}
 use Rattle.lines.specs.Checks.{found, check, answering}
 use Rattle.circuit.specs.Table.{decode}
 use Rattle.circuit.specs.Refusal.{refusal, circuit_table}
 use Rattle.circuit.specs.Trim.{trim}
-use Rattle.rules.specs.declared.Matched.{Matched}
-use Rattle.rules.specs.declared.Matched.TheVariants.{Verdict, Refused}
 use Rattle.rules.specs.RuleRefusal.{rules_refusal, rules_table}
-use Rattle.rules.specs.Verdict.{match_site}
+use Rattle.rules.specs.Verdict.{applied_number, match_site}
+use Rattle.rules.specs.declared.Verdict.{Verdict}
 
--- the answer: a success gives the verdict
-abbrev pub paper_values : Matched → Result
-paper_values (Verdict v) = gives (v ∷ [])
-paper_values (Refused r) = refused r.number r.table
+-- the answer: a success gives the verdict, 0 if none applies
+abbrev pub paper_values : Returned (Option Verdict) GivenRefusal → Result
+paper_values = answer_of (λ v. applied_number v ∷ [])
 
 -- 01, Refusals, 2, and 02, 2026-01: 1 for each table; 4, 5, 11, 6, 7 of the circuit; 4 to 8 of the rules.
 abbrev pub match_checks : (circuit rules : List ℕ) → List Refusal

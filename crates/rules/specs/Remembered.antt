@@ -1,20 +1,30 @@
 -- What is kept of the rules while a list of sites is gone over, so that a rule is judged once, however many sites name it.
-use Rattle.std.specs.Prelude.{ℕ, ◌+◌, ◌*◌, ◌≡◌, List, length, get_or}
+use Rattle.std.specs.Prelude.{ℕ, ◌+◌, ◌≡◌, not, List, length, slice_index_or, Result, Ok, Err, Option, Some, None}
 use Rattle.lists.specs.First.{first}
-use Rattle.rules.specs.declared.judging.JudgedRule.{JudgedRule}
-use Rattle.rules.specs.Rule.{max_rules}
-use Rattle.rules.specs.RuleTable.{place_of}
-use Rattle.rules.specs.Verdict.{has_rule, judgement}
+use Rattle.rules.specs.declared.Verdict.{Verdict}
+use Rattle.rules.specs.declared.Verdict.TheVariants.{NoRule, NotSound}
+use Rattle.rules.specs.declared.rule.Rule.{Rule as TableRule}
+use Rattle.rules.specs.Rule.{Rule, max_rules}
+use Rattle.rules.specs.RuleTable.{rule_at, rule_of}
+use Rattle.rules.specs.Soundness.{is_sound}
+use Rattle.rules.specs.Verdict.{has_rule}
 
--- where the rule of a number begins, 0 if there is none, and the judge's verdict on it
-unfoldable pub judged_rule : (rules : List ℕ) (rule : ℕ) → JudgedRule
-judged_rule t rule = record { place = first (has_rule t rule) (place_of t rule) 0; verdict = judgement t rule }
+-- what a rule's table says of it
+abbrev pub said : TableRule → Rule
+said u = rule_at u.table.now u.from
 
--- both as one number, which is not 0: the judge's verdicts are below 4, and a rule that is there does not begin at 0
-abbrev pub entry_of : JudgedRule → ℕ
-entry_of j = 4 * j.place + j.verdict
+abbrev pub said_or : Result TableRule Verdict → Result Rule Verdict
+said_or (Ok u) = Ok (said u)
+said_or (Err v) = Err v
 
--- an entry for each rule number: 0 as long as it has not been asked for
-pub record Remembered (rules known : List ℕ) : Type 0 where
+-- the rule of a number, or the judge's verdict on it, whose number is `judgement` (`judged-number` in proofs/JudgedLaws.antt)
+unfoldable pub judged_rule : (rules : List ℕ) (rule : ℕ) → Result Rule Verdict
+judged_rule t rule =
+    first (not (has_rule t rule)) (Err NoRule)
+    (first (not (is_sound (rule_of t rule))) (Err NotSound)
+    (Ok (rule_of t rule)))
+
+-- an entry for each rule number: what is kept there is right
+pub record Remembered (rules : List ℕ) (known : List (Option (Result TableRule Verdict))) : Type 0 where
   pub long : length known ≡ max_rules + 1
-  pub right : (rule : ℕ) → (get_or known rule 0 ≡ 0 → ⊥) → get_or known rule 0 ≡ entry_of (judged_rule rules rule)
+  pub right : (rule : ℕ) (judged : Result TableRule Verdict) → slice_index_or known rule None ≡ Some judged → said_or judged ≡ judged_rule rules rule

@@ -1,9 +1,11 @@
 -- 01, Sites, 13: the verdicts 1 to 4 of a site, the first that applies.
-use Rattle.std.specs.Prelude.{ℕ, ◌/◌, ◌^◌, Bool, not, ◌&&◌, List, eqb, leb, ltb, length}
+use Rattle.std.specs.Prelude.{ℕ, ◌/◌, ◌^◌, Bool, not, ◌&&◌, List, eqb, leb, ltb, length, Result, Ok, Err, Some, None, Option as Optional}
 use Rattle.std.proofs.Math.Option.{Option, none, some}
 use Rattle.lists.specs.First.{first}
 use Rattle.circuit.specs.Circuit.{Circuit, constants, first_gate, references}
 use Rattle.circuit.specs.Path.{is_gate}
+use Rattle.rules.specs.declared.Verdict.{Verdict}
+use Rattle.rules.specs.declared.Verdict.TheVariants.{NoRule, NotSound, NotAGate, NoMatch, TooLarge, NotLower}
 use Rattle.rules.specs.declared.ReferenceKind.{ReferenceKind}
 use Rattle.rules.specs.declared.ReferenceKind.TheVariants.{Constant, Input, Gate, Beyond}
 use Rattle.rules.specs.Rule.{Rule}
@@ -26,6 +28,24 @@ not_a_gate = 3
 
 abbrev pub no_match : ℕ
 no_match = 4
+
+-- the code's verdicts, those of crate rewriting too, by the same numbers
+abbrev pub verdict_number : Verdict → ℕ
+verdict_number NoRule = no_rule
+verdict_number NotSound = not_sound
+verdict_number NotAGate = not_a_gate
+verdict_number NoMatch = no_match
+verdict_number TooLarge = 5
+verdict_number NotLower = 6
+
+-- the one that applies, if one does
+abbrev pub applied_number : Optional Verdict → ℕ
+applied_number None = passes
+applied_number (Some v) = verdict_number v
+
+abbrev pub number_of : {A : Type 0} → Result A Verdict → ℕ
+number_of (Ok a) = passes
+number_of (Err v) = verdict_number v
 
 -- 1 does not apply: there is such a rule.
 abbrev pub has_rule : List ℕ → (rule : ℕ) → Bool
@@ -70,9 +90,10 @@ abbrev pub verdict_by : Option (List ℕ) → SiteMatch
 verdict_by none = failing no_match
 verdict_by (some b) = record { verdict = passes; bindings = b }
 
--- a verdict as it was given, where `b` has the bindings if it is 0, and else is of no more use
-abbrev pub given_with : (b : List ℕ) (verdict : ℕ) → SiteMatch
-given_with b v = first (eqb v passes) (record { verdict = v; bindings = b }) (failing v)
+-- what the code says of a match: its bindings, or the verdict that applies
+abbrev pub match_of : Result (List ℕ) Verdict → SiteMatch
+match_of (Ok b) = record { verdict = passes; bindings = b }
+match_of (Err v) = failing (verdict_number v)
 
 -- 4 or 0, of a sound rule at a gate: 4 also for a mask bit beyond the left gates
 unfoldable pub match_at : Circuit → Rule → (gate mask : ℕ) → SiteMatch

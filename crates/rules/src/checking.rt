@@ -1,8 +1,8 @@
-// The refusals of tables of rules and sites, and their tests; those of rules in one walk. Each test is true if the refusal does not apply;
-// the walk gives the refusal's number.
-ghost use Rattle.std.specs.Prelude.{◌≡◌, false, not, ◌&&◌, ◌+◌, ◌*◌, ◌≤◌, ◌<◌, length, drop};
+// The checks of tables of rules and sites, and their tests; those of rules in one walk. Each test is true if the refusal does not apply.
+ghost use Rattle.std.specs.Prelude.{◌≡◌, IfOk, [], ◌∷◌, false, not, ◌&&◌, ◌+◌, ◌*◌, ◌≤◌, ◌<◌, length, drop};
 ghost use Rattle.lists.specs.First.{first};
-ghost use Rattle.lines.specs.Checks.{first_found};
+ghost use Rattle.lines.specs.Refusal.{found_by, number_found_by};
+ghost use Rattle.lines.specs.Checks.{found, first_found};
 ghost use Rattle.lines.specs.Text.{is_partial};
 ghost use Rattle.circuit.specs.Circuit.{constants};
 ghost use Rattle.circuit.specs.Each.{all_gates};
@@ -10,20 +10,20 @@ ghost use Rattle.circuit.specs.Refusal.{has_gate_kind, operands_below};
 ghost use Rattle.circuit.specs.Table.{lines_of};
 ghost use Rattle.rules.specs.MatchCall.{match_checks};
 ghost use Rattle.rules.specs.Rule.{max_left_references};
-ghost use Rattle.rules.specs.RuleRefusal.{rules_head_in_limits, rule_in_limits, rule_kinds_ok, references_ok, uses_ok, rules_refusal};
+ghost use Rattle.rules.specs.RuleRefusal.{rules_head_in_limits, rule_in_limits, rule_kinds_ok, references_ok, uses_ok, rules_table, rules_refusal};
 ghost use Rattle.rules.specs.RuleTable.{rule_at};
-ghost use Rattle.rules.specs.SiteTable.{sites_head_in_limits, sites_as_head_says, sites_refusal};
+ghost use Rattle.rules.specs.SiteTable.{sites_head_in_limits, sites_as_head_says, sites_table, sites_refusal};
 ghost use Rattle.rules.specs.UseWord.{word_bits, mark, MarksUses, owed};
 ghost use Rattle.rules.specs.WellFormed.{RuleSized};
 
-use crate::RULES_TABLE;
+use crate::rule::Rules;
+use crate::site::Sites;
 use crate::table::{
-    MAX_HOLES, MAX_LEFTS, MAX_RIGHTS, MAX_RULES, MAX_SITES, closing_from, left_from, next_rule,
-    right_from, rules_from, sites_from,
+    HEAD, MAX_HOLES, MAX_LEFTS, MAX_RIGHTS, MAX_RULES, MAX_SITES, closing_from, left_from,
+    next_rule, right_from,
 };
-use circuit::CIRCUIT_TABLE;
-use circuit::checked::{CONSTANTS, Tested, refusal, test_closing, test_gate, test_gates};
-use lines::{NO_TABLE, Refusal, is_partial, refuse};
+use circuit::checked::{CONSTANTS, Circuit, Tested, accept, test_closing, test_gate, test_gates};
+use lines::{Reason, Refusal, Table, is_partial, refuse_if};
 
 // As many bits as a word has that says which references are used; a left side has fewer.
 const WORD_BITS: u32 = 32;
@@ -70,7 +70,7 @@ struct LeftTested {
     used: u32,
 }
 
-// Of n left gate lines, from number q on, the first of them reference `first`.
+// Of n left gate lines, from number q on, the first of them reference `first`. A place in the table, which `test_gate` asks for.
 fn test_lefts(t: &[u32], q: usize, n: usize, first: u32, earlier: Tested) -> LeftTested
     requires n_in_bounds { q + 3 * n ≤ length t.now }
     requires n_bound { first + n ≤ max_left_references }
@@ -130,55 +130,53 @@ fn test_rule(t: &[u32], p: usize, earlier: RulesTested) -> RulesTested
     }
 }
 
-// The lowest of 6, 7 and 8 that applies to some rule, or 0.
-fn lowest(tested: RulesTested) -> u32
-    ensures { result ≡ first (not tested.kinds) 6 (first (not tested.references) 7 (first (not tested.uses) 8 0)) }
+// The lowest of 6, 7 and 8 that applies to some rule.
+fn lowest(tested: RulesTested) -> Result<(), Reason>
+    ensures { number_found_by result ≡ first (not tested.kinds) 6 (first (not tested.references) 7 (first (not tested.uses) 8 0)) }
 {
     if !tested.kinds {
-        return 6;
+        return Err(Reason::UnknownKind);
     }
     if !tested.references {
-        return 7;
+        return Err(Reason::ReferenceOutOfRange);
     }
     if !tested.uses {
-        return 8;
+        return Err(Reason::UnusedReference);
     }
-    0
+    Ok(())
 }
 
 // All refusals but 1, in one walk. 4 and 5 are given at once, since only a rule within its limits, whose lines are there, can be tested, and
 // only such a rule says where the next one begins.
-fn walk_rules(t: &[u32]) -> u32
+fn walk_rules(t: &[u32]) -> Result<(), Reason>
     requires { is_partial 3 t.now ≡ false }
-    ensures { result ≡ rules_refusal t.now }
+    ensures { number_found_by result ≡ rules_refusal t.now }
 {
     if !rules_head_in_limits(t) {
-        return 4;
+        return Err(Reason::HeadOutOfLimits);
     }
     let mut tested = RulesTested {
         kinds: true,
         references: true,
         uses: true,
     };
-    let mut remaining = t[0];
-    let mut p = rules_from(t);
-    while 0 < remaining {
+    let mut p = HEAD;
+    for _ in 0..t[0] {
         if t.len() - p < 3 {
-            return 5;
+            return Err(Reason::LinesNotAsHeadSays);
         }
         if !rule_in_limits(t, p) {
-            return 4;
+            return Err(Reason::HeadOutOfLimits);
         }
         let next = next_rule(t, p);
         if t.len() < next {
-            return 5;
+            return Err(Reason::LinesNotAsHeadSays);
         }
         tested = test_rule(t, p, tested);
         p = next;
-        remaining -= 1;
     }
     if p != t.len() {
-        return 5;
+        return Err(Reason::LinesNotAsHeadSays);
     }
     lowest(tested)
 }
@@ -197,52 +195,61 @@ fn sites_as_head_says(t: &[u32]) -> bool
     ensures { result ≡ sites_as_head_says t.now }
 {
     let sites = t[0] as usize;
-    t.len() == sites_from(t) + 3 * sites
+    t.len() == HEAD + 3 * sites
 }
 
-// The number of the first refusal that applies to the rules, or 0.
-pub fn rules_refusal(t: &[u32]) -> u32
-    ensures { result ≡ rules_refusal t.now }
+// The checks of a table of rules.
+fn check_rules(t: &[u32]) -> Result<(), Refusal>
+    ensures { found_by result ≡ first_found (found (rules_refusal t.now) rules_table ∷ []) }
 {
-    if is_partial(t) {
-        return 1;
-    }
-    walk_rules(t)
+    let table = Some(Table::Rules);
+    refuse_if(is_partial(t), Reason::WrongLength, table)?;
+    walk_rules(t).map_err(|reason| Refusal { reason, table })
 }
 
-// The number of the first refusal that applies to the sites, or 0.
-pub fn sites_refusal(t: &[u32]) -> u32
-    ensures { result ≡ sites_refusal t.now }
+// The rules that a table says, if no refusal applies.
+pub fn accept_rules(table: &[u32]) -> Result<Rules<'_>, Refusal>
+    ensures refusal { found_by result ≡ first_found (found (rules_refusal table.now) rules_table ∷ []) }
+    ensures accepted { IfOk result (λ r. r.table.now ≡ table.now) }
 {
-    if is_partial(t) {
-        return 1;
-    }
-    if !sites_head_in_limits(t) {
-        return 4;
-    }
-    if !sites_as_head_says(t) {
-        return 5;
-    }
-    0
+    check_rules(table)?;
+    Ok(Rules { table })
 }
 
-// The refusal of a call that matches rules in a circuit, if there is one.
-pub fn match_refusal(circuit: &[u32], rules: &[u32]) -> Refusal
-    ensures { result ≡ first_found (match_checks circuit.now rules.now) }
+// The checks of a table of sites.
+fn check_sites(t: &[u32]) -> Result<(), Refusal>
+    ensures { found_by result ≡ first_found (found (sites_refusal t.now) sites_table ∷ []) }
 {
-    if is_partial(circuit) {
-        return refuse(1, CIRCUIT_TABLE);
-    }
-    if is_partial(rules) {
-        return refuse(1, RULES_TABLE);
-    }
-    let of_circuit = refusal(circuit);
-    if of_circuit != 0 {
-        return refuse(of_circuit, CIRCUIT_TABLE);
-    }
-    let of_rules = rules_refusal(rules);
-    if of_rules != 0 {
-        return refuse(of_rules, RULES_TABLE);
-    }
-    refuse(0, NO_TABLE)
+    let table = Some(Table::Sites);
+    refuse_if(is_partial(t), Reason::WrongLength, table)?;
+    refuse_if(!sites_head_in_limits(t), Reason::HeadOutOfLimits, table)?;
+    refuse_if(!sites_as_head_says(t), Reason::LinesNotAsHeadSays, table)
+}
+
+// The sites that a table says, if no refusal applies.
+pub fn accept_sites(table: &[u32]) -> Result<Sites<'_>, Refusal>
+    ensures refusal { found_by result ≡ first_found (found (sites_refusal table.now) sites_table ∷ []) }
+    ensures accepted { IfOk result (λ s. s.table.now ≡ table.now) }
+{
+    check_sites(table)?;
+    Ok(Sites { table })
+}
+
+// The circuit and the rules of a call that matches them in it, if no refusal applies.
+pub fn accept_match<'a>(
+    circuit: &'a [u32],
+    rules: &'a [u32],
+) -> Result<(Circuit<'a>, Rules<'a>), Refusal>
+    ensures refusal { found_by result ≡ first_found (match_checks circuit.now rules.now) }
+    ensures accepted { IfOk result (λ (c, r). (c ≡ circuit.now) × (r.table.now ≡ rules.now)) }
+{
+    refuse_if(
+        is_partial(circuit),
+        Reason::WrongLength,
+        Some(Table::Circuit),
+    )?;
+    refuse_if(is_partial(rules), Reason::WrongLength, Some(Table::Rules))?;
+    let accepted = accept(circuit)?;
+    let rules = accept_rules(rules)?;
+    Ok((accepted, rules))
 }

@@ -1,25 +1,19 @@
 // Whether a rule is sound: the truth tables of its two sides as words, one bit for each assignment of the holes, and one compare a word (01,
 // Rules, 6; 02, 2026-07).
-ghost use Rattle.std.specs.Prelude.{◌≡◌, true, not, ◌+◌, ◌*◌, ◌<◌, ◌≤◌, length, take, drop};
-ghost use Rattle.lists.specs.First.{first};
+ghost use Rattle.std.specs.Prelude.{◌≡◌, true, ◌+◌, ◌*◌, ◌<◌, ◌≤◌, length, take, drop};
 ghost use Rattle.circuit.specs.Circuit.{first_gate};
 ghost use Rattle.circuit.specs.Each.{all_gates};
-ghost use Rattle.circuit.specs.Evaluation.{bit_op};
 ghost use Rattle.circuit.specs.Refusal.{operands_below};
 ghost use Rattle.circuit.specs.Table.{lines_of};
 ghost use Rattle.rules.specs.Rule.{max_holes, max_left_references};
-ghost use Rattle.rules.specs.Remembered.{judged_rule, Remembered};
-ghost use Rattle.rules.specs.RuleTable.{rule_at};
+ghost use Rattle.rules.specs.Remembered.{said, said_or, judged_rule, Remembered};
 ghost use Rattle.rules.specs.Soundness.{side_value, is_sound};
-ghost use Rattle.rules.specs.Verdict.{passes, not_sound};
-ghost use Rattle.rules.specs.WellFormed.{WellFormedRule, WellFormedRules};
 ghost use Rattle.rules.specs.Words.{masked_holes, assignments_per_word, hole_word, start_words, same_words, words_for};
 
-use crate::table::{
-    BINDINGS, MAX_RULES, RULE_NUMBERS, closing_from, has_rule, left_from, place, right_from,
-};
-use crate::{NO_RULE, NOT_SOUND, PASSES};
-use circuit::checked::{AND, CONSTANTS};
+use crate::Verdict;
+use crate::rule::{Rule, Rules};
+use crate::table::{BINDINGS, MAX_RULES, RULE_NUMBERS, has_rule, place};
+use circuit::checked::{CONSTANTS, Kind};
 
 // Assignments go in blocks of 64, a bit of a word each: block w begins with assignment 64 w. So many holes have masks, which are their words
 // in every block, as a block has all assignments of theirs.
@@ -61,21 +55,8 @@ const START_WORDS: [u64; BINDINGS] = [
     0,
 ];
 
-// A rule's place in its table, and the judge's verdict on it.
-#[derive(Clone, Copy)]
-pub struct JudgedRule {
-    pub place: usize,
-    pub verdict: u32,
-}
-
-fn gate_word(kind: u32, a: u64, b: u64) -> u64
-    ensures { result ≡ bit_op kind a b }
-{
-    match kind {
-        AND => a & b,
-        _ => a ^ b,
-    }
-}
+// What the judge has found, by rule number: the rule, or the verdict on it; None where it was not asked yet.
+pub type Judgements<'a> = [Option<Result<Rule<'a>, Verdict>>; RULE_NUMBERS];
 
 // The word of hole j, one that has no mask, in block w: all assignments there give it the same bit, bit j - 6 of w.
 fn high_word(j: u32, w: u32) -> u64
@@ -96,10 +77,8 @@ fn set_high_words(words: &mut [u64; BINDINGS], holes: u32, w: u32)
     ensures words_len { length words.new ≡ max_left_references }
     ensures words_after { take (first_gate holes) words.new ≡ start_words assignments_per_word (w * assignments_per_word) holes }
 {
-    let mut j = MASKED_HOLES;
-    while j < holes {
+    for j in MASKED_HOLES..holes {
         words[(j + CONSTANTS) as usize] = high_word(j, w);
-        j += 1;
     }
 }
 
@@ -122,31 +101,37 @@ fn side_word(
     ensures words_unchanged { take (first_gate holes) words.new ≡ take (first_gate holes) words.old }
 {
     let base = holes + CONSTANTS as usize;
-    let mut i: usize = 0;
-    while i < n {
+    for i in 0..n {
         let left = t[q + 3 * i + 1] as usize;
         let right = t[q + 3 * i + 2] as usize;
-        let word = gate_word(t[q + 3 * i], words[left], words[right]);
-        words[base + i] = word;
-        i += 1;
+        // A rule has gates of no other kind.
+        let kind = Kind::try_from(t[q + 3 * i]).unwrap_or(Kind::Xor);
+        words[base + i] = kind.apply(words[left], words[right]);
     }
     words[r]
 }
 
-// Whether both sides of the rule at p agree on the assignments of block w.
-fn same_words(t: &[u32], p: usize, w: u32) -> bool
-    requires { WellFormedRule t.now p }
-    ensures { result ≡ same_words assignments_per_word (w * assignments_per_word) (rule_at t.now p) }
+// Whether both sides of a rule agree on the assignments of block w.
+fn same_words(rule: &Rule, w: u32) -> bool
+    ensures { result ≡ same_words assignments_per_word (w * assignments_per_word) (said rule.now) }
 {
-    let holes = t[p] as usize;
-    let lefts = t[p + 1] as usize;
-    let rights = t[p + 2] as usize;
-    let root = holes + CONSTANTS as usize + lefts - 1;
-    let closing = t[closing_from(t, p) + 1] as usize;
+    let t = rule.table;
+    let holes = rule.holes();
+    let lefts = rule.lefts() as usize;
+    let rights = rule.rights() as usize;
+    let root = rule.root() as usize;
+    let closing = rule.closing() as usize;
     let mut words = START_WORDS;
-    set_high_words(&mut words, t[p], w);
-    let left = side_word(t, left_from(t, p), lefts, holes, root, &mut words);
-    let right = side_word(t, right_from(t, p), rights, holes, closing, &mut words);
+    set_high_words(&mut words, holes, w);
+    let left = side_word(t, rule.left_from(), lefts, holes as usize, root, &mut words);
+    let right = side_word(
+        t,
+        rule.right_from(),
+        rights,
+        holes as usize,
+        closing,
+        &mut words,
+    );
     left == right
 }
 
@@ -162,73 +147,52 @@ fn words_for(holes: u32) -> u32
     }
 }
 
-// Whether the rule at p is sound: the first word that differs ends it.
-fn is_sound(t: &[u32], p: usize) -> bool
-    requires { WellFormedRule t.now p }
-    ensures { result ≡ is_sound (rule_at t.now p) }
+// Whether a rule is sound: the first word that differs ends it.
+fn is_sound(rule: &Rule) -> bool
+    ensures { result ≡ is_sound (said rule.now) }
 {
-    let words = words_for(t[p]);
-    let mut w: u32 = 0;
-    while w < words {
-        if !same_words(t, p, w) {
+    for w in 0..words_for(rule.holes()) {
+        if !same_words(rule, w) {
             return false;
         }
-        w += 1;
     }
     true
 }
 
-// NOT_SOUND, else PASSES, of the rule at p.
-pub fn soundness_verdict(t: &[u32], p: usize) -> u32
-    requires { WellFormedRule t.now p }
-    ensures { result ≡ first (not (is_sound (rule_at t.now p))) not_sound passes }
-{
-    if is_sound(t, p) {
-        return PASSES;
+impl<'a> Rules<'a> {
+    // The rule of a number, or the judge's verdict on it.
+    pub fn judged(&self, number: u32) -> Result<Rule<'a>, Verdict>
+        ensures { said_or result ≡ judged_rule self.now.table.now number }
+    {
+        let table = self.table;
+        if !has_rule(table, number) {
+            return Err(Verdict::NoRule);
+        }
+        let rule = Rule {
+            table,
+            from: place(table, number),
+        };
+        if !is_sound(&rule) {
+            return Err(Verdict::NotSound);
+        }
+        Ok(rule)
     }
-    NOT_SOUND
-}
 
-// Where the rule of a number begins, 0 if there is none, and NO_RULE or NOT_SOUND, else PASSES, of it.
-pub fn judged_rule(t: &[u32], rule: u32) -> JudgedRule
-    requires { WellFormedRules t.now }
-    ensures { result ≡ judged_rule t.now rule }
-{
-    if !has_rule(t, rule) {
-        return JudgedRule {
-            place: 0,
-            verdict: NO_RULE,
-        };
+    // The same, worked out if `known` does not have it yet, and then kept there. A number beyond every table's rules needs no entry.
+    pub fn judged_once(&self, number: u32, known: &mut Judgements<'a>) -> Result<Rule<'a>, Verdict>
+        requires { Remembered self.now.table.now known.old }
+        ensures value { said_or result ≡ judged_rule self.now.table.now number }
+        ensures remembered { Remembered self.now.table.now known.new }
+    {
+        if MAX_RULES < number {
+            return Err(Verdict::NoRule);
+        }
+        let k = number as usize;
+        if let Some(judged) = known[k] {
+            return judged;
+        }
+        let judged = self.judged(number);
+        known[k] = Some(judged);
+        judged
     }
-    let p = place(t, rule);
-    JudgedRule {
-        place: p,
-        verdict: soundness_verdict(t, p),
-    }
-}
-
-// The same, worked out if `known` does not have it yet, and then kept there. A number beyond every table's rules needs no entry.
-pub fn judged_once(t: &[u32], rule: u32, known: &mut [usize; RULE_NUMBERS]) -> JudgedRule
-    requires well_formed_rules { WellFormedRules t.now }
-    requires remembered { Remembered t.now known.old }
-    ensures value { result ≡ judged_rule t.now rule }
-    ensures remembered_2 { Remembered t.now known.new }
-{
-    if MAX_RULES < rule {
-        return JudgedRule {
-            place: 0,
-            verdict: NO_RULE,
-        };
-    }
-    let k = rule as usize;
-    let old = known[k];
-    if old != 0 {
-        return JudgedRule {
-            place: old / 4,
-            verdict: (old % 4) as u32,
-        };
-    }
-    let new = judged_rule(t, rule);
-    known[k] = 4 * new.place + new.verdict as usize;
-    new
 }

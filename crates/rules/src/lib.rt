@@ -9,47 +9,29 @@ pub mod checked;
 mod checking;
 mod judging;
 mod matching;
+mod rule;
+mod site;
+mod site_match;
 mod table;
-mod verdict;
 
-use checking::match_refusal;
-use judging::judged_rule;
-use lines::{Refusal, refuse};
-use verdict::trimmed_verdict;
+use checking::{accept_match, accept_rules};
+use circuit::checked::old_number;
+use lines::Refusal;
+use site_match::match_numbered;
 
-// 01's numbers of the tables of rules and sites, for the refusals that lie in them.
-pub const RULES_TABLE: u32 = 2;
-
-pub const SITES_TABLE: u32 = 3;
-
-// 01's numbers of the verdicts up to the match (Sites, 13), and 0 where none applies. A `match` that decides on a verdict names each that
-// can come there, in this order, and PASSES last; nothing else comes there, so that `_`, which the language asks for, stands beside it.
-pub const PASSES: u32 = 0;
-
-pub const NO_RULE: u32 = 1;
-
-pub const NOT_SOUND: u32 = 2;
-
-pub const NOT_A_GATE: u32 = 3;
-
-pub const NO_MATCH: u32 = 4;
-
-// The judge's verdict, 1 or 2, else 0.
-#[derive(Clone, Copy)]
-pub enum Judged {
-    Verdict(u32),
-    Refused(Refusal),
-}
-
-// The match's verdict, the first of 1 to 4 that applies, else 0.
-#[derive(Clone, Copy)]
-pub enum Matched {
-    Verdict(u32),
-    Refused(Refusal),
+// The verdicts on a site by 01's numbers (Sites, 13): the first that applies is the site's. A site that passes them all is kept.
+#[derive(Clone, Copy, Debug, PartialEq, Eq)]
+pub enum Verdict {
+    NoRule = 1,
+    NotSound = 2,
+    NotAGate = 3,
+    NoMatch = 4,
+    TooLarge = 5,
+    NotLower = 6,
 }
 
 // What a reference is in a circuit.
-#[derive(Clone, Copy)]
+#[derive(Clone, Copy, Debug, PartialEq, Eq)]
 pub enum ReferenceKind {
     Constant,
     Input,
@@ -57,24 +39,27 @@ pub enum ReferenceKind {
     Beyond,
 }
 
-// The verdict on a rule by its number: 1 if there is none, 2 if it is not sound, else 0.
-pub fn judge(rules: &[u32], rule: u32) -> Judged
-    ensures { judged_values result ≡ judging rules.now rule }
+// The verdict on a rule by its number, if one applies: there is none of that number, or it is not sound.
+pub fn judge(rules: &[u32], number: u32) -> Result<Option<Verdict>, Refusal>
+    ensures { judged_values result ≡ judging rules.now number }
 {
-    let number = checked::rules_refusal(rules);
-    match number {
-        0 => Judged::Verdict(judged_rule(rules, rule).verdict),
-        _ => Judged::Refused(refuse(number, RULES_TABLE)),
-    }
+    let rules = accept_rules(rules)?;
+    Ok(rules.judged(number).err())
 }
 
-// The verdict on a site before anything is replaced there: the first of 1 to 4 that applies in the trimmed circuit, else 0.
-pub fn match_site(circuit: &[u32], rules: &[u32], rule: u32, gate: u32, mask: u32) -> Matched
-    ensures { matched_values result ≡ matching circuit.now rules.now rule gate mask }
+// The verdict on a site before anything is replaced there, if one applies: the first of those up to the match that does in the trimmed circuit.
+// What a kept gate reads is kept, and trimming only renames it, so that a left gate's part of the match holds there exactly if it holds in the
+// circuit as it is: that one is taken, with the gate's number in it.
+pub fn match_site(
+    circuit: &[u32],
+    rules: &[u32],
+    number: u32,
+    gate: u32,
+    mask: u32,
+) -> Result<Option<Verdict>, Refusal>
+    ensures { matched_values result ≡ matching circuit.now rules.now number gate mask }
 {
-    let refusal = match_refusal(circuit, rules);
-    if refusal.number != 0 {
-        return Matched::Refused(refusal);
-    }
-    Matched::Verdict(trimmed_verdict(circuit, rules, rule, gate, mask))
+    let (circuit, rules) = accept_match(circuit, rules)?;
+    let old = old_number(&circuit, gate);
+    Ok(match_numbered(&circuit, &rules, number, old, mask).err())
 }

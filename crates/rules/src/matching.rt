@@ -1,21 +1,22 @@
 // The match of a rule's left side at a gate (01, Sites, Match).
-ghost use Rattle.std.specs.Prelude.{◌≡◌, true, ◌||◌, ◌+◌, ◌<◌, ◌≤◌, eqb, length, get_or};
+ghost use Rattle.std.specs.Prelude.{◌≡◌, ◌+◌, ◌<◌, ◌≤◌, eqb, length, get_or};
 ghost use Rattle.std.proofs.Math.Option.{bind};
-ghost use Rattle.circuit.specs.Circuit.{xor_kind, and_kind, max_references};
-ghost use Rattle.circuit.specs.Table.{refs, gates_from, line_at, decode};
-ghost use Rattle.circuit.specs.WellFormed.{WellFormed};
+ghost use Rattle.circuit.specs.Circuit.{max_references, kind_number};
+ghost use Rattle.circuit.specs.Table.{refs, line_at, decode};
 ghost use Rattle.rules.specs.Rule.{max_left_references};
-ghost use Rattle.rules.specs.RuleTable.{lefts_at, rule_at};
-ghost use Rattle.rules.specs.WellFormed.{WellFormedRule};
-ghost use Rattle.rules.specs.Match.{unbound, bind_reference, match_gate, match_left, match_gates, start_bindings, attempt};
-ghost use Rattle.rules.specs.Verdict.{given_with, match_at};
+ghost use Rattle.rules.specs.Remembered.{said};
+ghost use Rattle.rules.specs.RuleTable.{lefts_at};
+ghost use Rattle.rules.specs.Match.{bind_reference, match_gate, match_left, match_gates, start_bindings, attempt};
+ghost use Rattle.rules.specs.Verdict.{match_of, match_at};
 
-use crate::table::{BINDINGS, left_from};
-use crate::{NO_MATCH, PASSES};
-use circuit::checked::{AND, CONSTANTS, XOR, gate_line, gates_from};
+use crate::Verdict;
+use crate::rule::Rule;
+use crate::table::{BINDINGS, Bindings};
+use circuit::checked::{Circuit, Kind};
 
 // Rule reference r paired with circuit reference v: an unbound one becomes bound. Where it fails, the bindings are of no more use.
-fn bind_reference(b: &mut [u32; BINDINGS], r: usize, v: u32) -> bool
+// Here and below they are lent, beside a bool, as an Option of them would copy all 27 at each call (specs' `attempt` joins the two).
+fn bind_reference(b: &mut Bindings, r: usize, v: u32) -> bool
     requires r_lt_max_left_references { r < max_left_references }
     requires v_lt_max_references { v < max_references }
     ensures { attempt result b.new ≡ bind_reference r v b.old }
@@ -29,147 +30,99 @@ fn bind_reference(b: &mut [u32; BINDINGS], r: usize, v: u32) -> bool
 }
 
 // Rule references l and r paired with x and y, the left ones first.
-fn bind_operands(b: &mut [u32; BINDINGS], l: usize, r: usize, x: u32, y: u32) -> bool
+fn bind_operands(b: &mut Bindings, l: usize, r: usize, x: u32, y: u32) -> bool
     requires l_lt_max_left_references { (l < max_left_references) × (r < max_left_references) }
     requires x_lt_max_references { (x < max_references) × (y < max_references) }
     ensures { attempt result b.new ≡ bind (bind_reference l x b.old) (bind_reference r y) }
 {
-    if bind_reference(b, l, x) {
-        return bind_reference(b, r, y);
-    }
-    false
+    bind_reference(b, l, x) && bind_reference(b, r, y)
 }
 
-// Whether a circuit gate and a rule gate are of the same kind, by their lines' kinds.
-fn same_kind(kind: u32, other: u32) -> bool
-    requires { (eqb kind xor_kind || eqb kind and_kind) ≡ true }
-    ensures { result ≡ eqb kind other }
+// Whether a gate's kind is the one that a rule's line has.
+fn is_of_kind(kind: Kind, number: u32) -> bool
+    ensures { result ≡ eqb (kind_number kind) number }
 {
     match kind {
-        XOR => match other {
-            XOR => true,
-            _ => false,
-        },
-        AND => match other {
-            AND => true,
-            _ => false,
-        },
-        _ => false,
+        Kind::Xor => number == 1,
+        Kind::And => number == 2,
     }
 }
 
-// One left gate's part of the match: its line begins at number q of t, its reference is m; the circuit's gate lines begin at `from`. An
+// One left gate's part of the match: its line begins at number q of t, where the definition reads it too (`line_at`), its reference is m. An
 // unbound one is bound to no gate.
-fn match_gate(
-    c: &[u32],
-    from: usize,
-    t: &[u32],
-    q: usize,
-    m: usize,
-    swap: bool,
-    b: &mut [u32; BINDINGS],
-) -> bool
-    requires well_formed { WellFormed c.now }
-    requires from_value { from ≡ gates_from c.now }
+fn match_gate(c: &Circuit<'_>, t: &[u32], q: usize, m: usize, swap: bool, b: &mut Bindings) -> bool
     requires q_in_bounds { (q + 3 ≤ length t.now) × (m < max_left_references) }
     requires q_bound { (get_or t.now (q + 1) 0 < max_left_references) × (get_or t.now (q + 2) 0 < max_left_references) }
     ensures { attempt result b.new ≡ match_gate (decode c.now) m (line_at t.now q) swap b.old }
 {
-    let base = c[0] + CONSTANTS;
+    let base = c.first_gate();
     let bound = b[m];
     if bound <= base {
         return false;
     }
-    let k = bound - 1 - base;
-    if c[1] <= k {
+    let k = (bound - 1 - base) as usize;
+    if c.gates() <= k {
         return false;
     }
-    let line = gate_line(c, from, k as usize);
-    if !same_kind(line.kind, t[q]) {
+    let gate = c.gate(k);
+    if !is_of_kind(gate.kind, t[q]) {
         return false;
     }
     let l = t[q + 1] as usize;
     let r = t[q + 2] as usize;
     if swap {
-        return bind_operands(b, l, r, line.right, line.left);
+        return bind_operands(b, l, r, gate.right, gate.left);
     }
-    bind_operands(b, l, r, line.left, line.right)
+    bind_operands(b, l, r, gate.left, gate.right)
 }
 
-// Left gate i of the rule at number p of t.
-pub fn match_left(
-    c: &[u32],
-    from: usize,
-    t: &[u32],
-    p: usize,
-    i: u32,
-    swap: bool,
-    b: &mut [u32; BINDINGS],
-) -> bool
-    requires well_formed { WellFormed c.now }
-    requires from_value { from ≡ gates_from c.now }
-    requires well_formed_rule { WellFormedRule t.now p }
-    requires i_bound { i < lefts_at t.now p }
-    ensures { attempt result b.new ≡ match_left (decode c.now) (rule_at t.now p) i swap b.old }
+// Left gate i of a rule.
+pub fn match_left(c: &Circuit<'_>, rule: &Rule, i: u32, swap: bool, b: &mut Bindings) -> bool
+    requires { i < lefts_at rule.now.table.now rule.now.from }
+    ensures { attempt result b.new ≡ match_left (decode c.now) (said rule.now) i swap b.old }
 {
     let k = i as usize;
-    let base = t[p] as usize + CONSTANTS as usize;
-    match_gate(c, from, t, left_from(t, p) + 3 * k, base + k, swap, b)
+    let q = rule.left_from() + 3 * k;
+    match_gate(c, rule.table, q, rule.base() as usize + k, swap, b)
 }
 
-// The left gates of the rule at number p of t, from the last to the first.
-fn match_gates(c: &[u32], t: &[u32], p: usize, mask: u32, b: &mut [u32; BINDINGS]) -> bool
-    requires well_formed { WellFormed c.now }
-    requires well_formed_rule { WellFormedRule t.now p }
-    ensures { attempt result b.new ≡
-        match_gates (decode c.now) (rule_at t.now p) mask (lefts_at t.now p) b.old }
+// The left gates of a rule, from the last to the first.
+fn match_gates(c: &Circuit<'_>, rule: &Rule, mask: u32, b: &mut Bindings) -> bool
+    ensures { attempt result b.new ≡ match_gates (decode c.now) (said rule.now) mask
+        (lefts_at rule.now.table.now rule.now.from) b.old }
 {
-    let from = gates_from(c);
-    let mut i = t[p + 1];
-    while 0 < i {
-        i -= 1;
+    for i in (0..rule.lefts()).rev() {
         let swap = (mask >> i) % 2 == 1;
-        if !match_left(c, from, t, p, i, swap, b) {
+        if !match_left(c, rule, i, swap, b) {
             return false;
         }
     }
     true
 }
 
-// Before the first of them, where nothing is bound yet: the constants are bound to themselves, the last left gate to the site's gate.
-pub fn start_bindings(t: &[u32], p: usize, gate: u32, b: &mut [u32; BINDINGS])
-    requires well_formed_rule { WellFormedRule t.now p }
-    requires gate_lt_max_references { gate < max_references }
-    requires b_value { b.old ≡ unbound }
-    ensures { b.new ≡ start_bindings (rule_at t.now p) gate }
+// Before the first of them: the constants are bound to themselves, the last left gate to the site's gate.
+pub fn start_bindings(rule: &Rule, gate: u32) -> Bindings
+    requires { gate < max_references }
+    ensures { result ≡ start_bindings (said rule.now) gate }
 {
+    let mut b = [0; BINDINGS];
     b[0] = 1;
     b[1] = 2;
-    let root = t[p] as usize + CONSTANTS as usize + t[p + 1] as usize - 1;
-    b[root] = gate + 1;
+    b[rule.root() as usize] = gate + 1;
+    b
 }
 
-// NO_MATCH, else PASSES, of the rule at number p of t at a gate. The bindings go into b, where nothing is bound yet.
-pub fn match_at(
-    c: &[u32],
-    t: &[u32],
-    p: usize,
-    gate: u32,
-    mask: u32,
-    b: &mut [u32; BINDINGS],
-) -> u32
-    requires well_formed { WellFormed c.now }
-    requires well_formed_rule { WellFormedRule t.now p }
-    requires gate_bound { gate < refs c.now }
-    requires b_value { b.old ≡ unbound }
-    ensures { given_with b.new result ≡ match_at (decode c.now) (rule_at t.now p) gate mask }
+// The bindings of a rule at a gate, if it matches there.
+pub fn match_at(c: &Circuit<'_>, rule: &Rule, gate: u32, mask: u32) -> Result<Bindings, Verdict>
+    requires { (gate < refs c.now) × (refs c.now ≤ max_references) }
+    ensures { match_of result ≡ match_at (decode c.now) (said rule.now) gate mask }
 {
-    if mask >> t[p + 1] != 0 {
-        return NO_MATCH;
+    if mask >> rule.lefts() != 0 {
+        return Err(Verdict::NoMatch);
     }
-    start_bindings(t, p, gate, b);
-    if match_gates(c, t, p, mask, b) {
-        return PASSES;
+    let mut b = start_bindings(rule, gate);
+    if !match_gates(c, rule, mask, &mut b) {
+        return Err(Verdict::NoMatch);
     }
-    NO_MATCH
+    Ok(b)
 }

@@ -1,13 +1,14 @@
 // How the tables of rules and sites are laid out: their limits, where the parts of a rule begin, and what they say.
 ghost use Rattle.std.specs.Prelude.{◌≡◌, true, ◌+◌, ◌≤◌, length};
-ghost use Rattle.circuit.specs.Circuit.{first_gate};
 ghost use Rattle.rules.specs.Rule.{max_lefts, max_rights};
-ghost use Rattle.rules.specs.RuleTable.{holes_at, lefts_at, rights_at, rules_from, left_from, right_from, closing_from, next_rule, rule_at, place_of};
-ghost use Rattle.rules.specs.SiteTable.{sites_from};
+ghost use Rattle.rules.specs.RuleTable.{lefts_at, rights_at, left_from, right_from, closing_from, next_rule, place_of};
 ghost use Rattle.rules.specs.Verdict.{has_rule};
-ghost use Rattle.rules.specs.WellFormed.{WellFormedRule, RulesSized};
+ghost use Rattle.rules.specs.WellFormed.{RulesSized};
 
 use circuit::checked::CONSTANTS;
+
+// As many numbers as the head of each table has: the first rule, or the first site, begins behind them.
+pub const HEAD: usize = 3;
 
 pub const MAX_RULES: u32 = 64;
 
@@ -25,32 +26,11 @@ pub const MAX_SITES: u32 = 512;
 // As many references as the left side of a rule can have, and so as many bindings.
 pub const BINDINGS: usize = (CONSTANTS + MAX_HOLES + MAX_LEFTS) as usize;
 
-// What a rule's right side is read by: its base, which is the reference of its first gate, how many gates it has, where their lines
-// begin, and its closing reference.
-#[derive(Clone, Copy)]
-pub struct RightSide {
-    pub base: u32,
-    pub count: u32,
-    pub from: usize,
-    pub closing: u32,
-}
-
-// Where the first rule begins: the length of the rules' head is said here alone.
-pub fn rules_from(t: &[u32]) -> usize
-    ensures { result ≡ rules_from t.now }
-{
-    3
-}
-
-// Where the first site begins: likewise for the sites' head.
-pub fn sites_from(t: &[u32]) -> usize
-    ensures { result ≡ sites_from t.now }
-{
-    3
-}
+// What each reference of a left side is bound to: 0 for none, else the circuit's reference plus 1 (`binding` in specs/Match.antt).
+pub type Bindings = [u32; BINDINGS];
 
 // Of the rule that begins at p: where its left gate lines, its right gate lines, its closing line and the rule behind it begin. These lines
-// may still be missing.
+// may still be missing. A place in the whole table, here and where tables are tested, since the definitions tell rules by it (`RuleTable`).
 pub fn left_from(t: &[u32], p: usize) -> usize
     requires { p + 3 ≤ length t.now }
     ensures { result ≡ left_from t.now p }
@@ -98,32 +78,9 @@ pub fn place(t: &[u32], rule: u32) -> usize
     requires rule_value { has_rule t.now rule ≡ true }
     ensures { result ≡ place_of t.now rule }
 {
-    let before = rule - 1;
-    let mut p = rules_from(t);
-    let mut i: u32 = 0;
-    while i < before {
+    let mut p = HEAD;
+    for _ in 1..rule {
         p = next_rule(t, p);
-        i += 1;
     }
     p
-}
-
-// The right side of the rule that begins at p.
-pub fn right_side(t: &[u32], p: usize) -> RightSide
-    requires { WellFormedRule t.now p }
-    ensures base_value { result.base ≡ first_gate (holes_at t.now p) }
-    ensures count_value { result.count ≡ rights_at t.now p }
-    ensures from_value { result.from ≡ right_from t.now p }
-    ensures closing_value { result.closing ≡ (rule_at t.now p).closing }
-{
-    let base = t[p] + CONSTANTS;
-    let count = t[p + 2];
-    let from = right_from(t, p);
-    let closing = t[closing_from(t, p) + 1];
-    RightSide {
-        base: base,
-        count: count,
-        from: from,
-        closing: closing,
-    }
 }

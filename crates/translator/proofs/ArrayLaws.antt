@@ -20,7 +20,7 @@ use Rattle.circuit.specs.Circuit.{max_references}
 use Rattle.circuit.specs.Path.{is_among}
 use Rattle.translator.specs.Machine.{max_registers}
 use Rattle.translator.specs.Allocation.{register_of, next_register, still_free, owners_with}
-use Rattle.translator.specs.Registers.{stack_of, RegisterArrays}
+use Rattle.translator.specs.RegisterArrays.{stack_of, RegisterArrays}
 use Rattle.translator.proofs.OwnerLaws.{register-at, among-at, freed-owner, freed-empty}
 
 -- ---- the stack
@@ -129,36 +129,51 @@ module _ (owner freed place : List ℕ) (free fresh : ℕ) (k : RegisterArrays o
         | no e ↦ rw (get_or-set_other place v u d 0 e) (k.near u)
       ]
 
-  module _ (v : ℕ) (hv : v < max_references) (out : is_among (suc v) (take fresh owner) ≡ false) where
-    pub arrays-fresh : free ≡ 0 → fresh < max_registers → RegisterArrays (set owner fresh (suc v)) freed (set place v fresh) free (fresh + 1)
-    arrays-fresh e h =
-        record {
-          owner-long = rw length-set k.owner-long;
-          freed-long = k.freed-long;
-          place-long = rw length-set k.place-long;
-          free-limit = k.free-limit;
-          fresh-limit = omega arith;
-          freed-used = λ i l. omega (arith, k.freed-used i l);
-          unused = λ d l. get_or-set_other owner fresh d (suc v) 0 (omega arith) ∙ k.unused d (omega arith);
-          near = near-with v fresh hv h;
-          placed = placed-with v fresh hv h out;
-        }
+  -- v is put into a register that was used before
+  pub arrays-put : (v d : ℕ) → v < max_references → is_among (suc v) (take fresh owner) ≡ false → d < fresh
+      → RegisterArrays (set owner d (suc v)) freed (set place v d) free fresh
+  arrays-put v d hv out h =
+      let hd : d < max_registers = omega (arith, k.fresh-limit) in
+      record {
+        owner-long = rw length-set k.owner-long;
+        freed-long = k.freed-long;
+        place-long = rw length-set k.place-long;
+        free-limit = k.free-limit;
+        fresh-limit = k.fresh-limit;
+        freed-used = k.freed-used;
+        unused = λ e l. get_or-set_other owner d e (suc v) 0 (omega arith) ∙ k.unused e l;
+        near = near-with v d hv hd;
+        placed = placed-with v d hv hd out;
+      }
 
-    pub arrays-freed : (n : ℕ) → free ≡ n + 1 → RegisterArrays (set owner (get_or freed n 0) (suc v)) freed (set place v (get_or freed n 0)) n fresh
-    arrays-freed n e =
-        let l = k.fresh-limit in
-        let h : get_or freed n 0 < fresh = k.freed-used n (omega arith) in
-        record {
-          owner-long = rw length-set k.owner-long;
-          freed-long = k.freed-long;
-          place-long = rw length-set k.place-long;
-          free-limit = omega (arith, k.free-limit);
-          fresh-limit = k.fresh-limit;
-          freed-used = λ i m. k.freed-used i (omega arith);
-          unused = λ j m. get_or-set_other owner (get_or freed n 0) j (suc v) 0 (omega arith) ∙ k.unused j m;
-          near = near-with v (get_or freed n 0) hv (omega arith);
-          placed = placed-with v (get_or freed n 0) hv (omega arith) out;
-        }
+  -- one register more was used, or one fewer is free
+  pub arrays-more : fresh < max_registers → RegisterArrays owner freed place free (fresh + 1)
+  arrays-more h =
+      record {
+        owner-long = k.owner-long;
+        freed-long = k.freed-long;
+        place-long = k.place-long;
+        free-limit = k.free-limit;
+        fresh-limit = omega arith;
+        freed-used = λ i l. omega (arith, k.freed-used i l);
+        unused = λ d l. k.unused d (omega arith);
+        near = k.near;
+        placed = k.placed;
+      }
+
+  pub arrays-fewer : RegisterArrays owner freed place (free - 1) fresh
+  arrays-fewer =
+      record {
+        owner-long = k.owner-long;
+        freed-long = k.freed-long;
+        place-long = k.place-long;
+        free-limit = omega (arith, k.free-limit);
+        fresh-limit = k.fresh-limit;
+        freed-used = λ i l. k.freed-used i (omega arith);
+        unused = k.unused;
+        near = k.near;
+        placed = k.placed;
+      }
 
   -- what the arrays say then
   module _ (v : ℕ) where
@@ -210,3 +225,8 @@ module _ (owner freed place : List ℕ) (free fresh : ℕ) (k : RegisterArrays o
       take-set fresh owner (get_or place v 0) 0 ∙ ap (λ d. set (take fresh owner) d 0) (sym (register-place v e)),
       stack_push freed free (get_or place v 0) (rw k.freed-long h) ∙ ap (λ d. d ∷ stack_of freed free) (sym (register-place v e)),
     )
+
+pub absent-more : (owner freed place : List ℕ) (free fresh : ℕ) → RegisterArrays owner freed place free fresh → (v : ℕ) → fresh < max_registers
+    → is_among (suc v) (take fresh owner) ≡ false → is_among (suc v) (take (fresh + 1) owner) ≡ false
+absent-more owner freed place free fresh k v h out =
+    sym (among-read owner freed place free (fresh + 1) (arrays-more owner freed place free fresh k h) v) ∙ among-read owner freed place free fresh k v ∙ out

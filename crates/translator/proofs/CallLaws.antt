@@ -7,8 +7,7 @@ use native.Mathlib.Omega.{arith}
 use lib.ListN.{length, get_or}
 use borrow.Author.Tests.{lt-ltb, le-leb, le-ltb, ltb-false}
 use Rattle.lists.proofs.Tests.{both}
-use Rattle.lines.specs.declared.Refusal.{Refusal}
-use Rattle.lines.specs.Refusal.{refused, gives, no_table, leaving}
+use Rattle.lines.specs.Refusal.{Refusal, refused, gives, no_table, leaving}
 use Rattle.lines.specs.Checks.{found, buffers_after, afterwards}
 use Rattle.lines.specs.Calls.{over}
 use Rattle.lines.proofs.CheckLaws.{check-passes, check-passed, applies-here, Passed, answer-given, answer-behind, outcome-refused, outcome-gives}

@@ -1,17 +1,16 @@
 -- What the loops of the allocator ask for at each gate and output: registers, room on the stack, and room in the program. Assumes nothing.
-use mathlib.Core.Path.{◌≡◌, sym, ap, ◌∙◌, fun_ext}
+use mathlib.Core.Path.{◌≡◌, ap, ◌∙◌}
 use mathlib.Core.Bool.{◌||◌}
-use mathlib.Core.List.{List, [], ◌∷◌}
+use mathlib.Core.List.{[], ◌∷◌}
 use Prim.Native.Nat.{ℕ, suc, ◌+◌, ◌≤◌, ◌<◌}
 use native.Mathlib.Numerals.{add-one}
 use native.Mathlib.Omega.{arith}
-use lib.Dec.{eqb, ltb}
+use lib.Dec.{eqb}
 use lib.ListN.{length, get_or, length-append}
 use Rattle.circuit.specs.Circuit.{Gate, Circuit, first_gate, references, no_gate}
 use Rattle.circuit.proofs.ValidLaws.{Limited}
 use Rattle.translator.specs.LiveRange.{is_used_from}
 use Rattle.translator.specs.Need.{need}
-use Rattle.translator.specs.LastUse.{last_use, is_used_behind}
 use Rattle.translator.specs.Machine.{emitting, max_registers}
 use Rattle.translator.specs.Allocation.{Allocation, assign}
 use Rattle.translator.specs.Allocator.{ensure_loaded, gate_turn, allocation_after, allocation_before, outputs_loaded}
@@ -25,7 +24,6 @@ use Rattle.translator.proofs.AllocatorLaws.{release-size, left-ensured, operands
 use Rattle.translator.proofs.SizeLaws.{ensure-grows, before-fits, after-fits, outputs-fit}
 use Rattle.translator.proofs.ShapeLaws.{program-limit}
 use Rattle.translator.proofs.MomentLaws.{front_length, front-outputs, front-gates, operation, after-code}
-use Rattle.translator.proofs.LastUseLaws.{used-from}
 
 -- ---- one gate, one output more
 
@@ -37,12 +35,6 @@ module _ (c : Circuit) where
   pub outputs-more : (j o : ℕ) → get_or c.outputs j 0 ≡ o → outputs_loaded c (j + 1) ≡ ensure_loaded o (outputs_loaded c j)
   unfolding outputs_loaded
   outputs-more j o e = rw (add-one j, e)
-
-  -- what is used after gate i, by the table of last uses
-  pub wanted_read : (last : List ℕ) → ((v : ℕ) → get_or last v 0 ≡ last_use c v) → (i : ℕ) → i < length c.gates
-      → is_used_behind last (i + 1) ≡ is_used_from c (suc i)
-  wanted_read last u i h =
-      fun_ext (λ v. ap (ltb (i + 1)) (u v) ∙ ap (λ j. ltb j (last_use c v)) (add-one i) ∙ sym (used-from c (suc i) v h))
 
 -- ---- registers
 
@@ -105,14 +97,14 @@ module _ (c : Circuit) (k : Trimmed c) (enough : need c ≤ max_registers) where
           program-limit c k l,
         )
 
-    -- all that gate i asks for, by the table of last uses
-    pub turnable : Limited c → (last : List ℕ) → ((v : ℕ) → get_or last v 0 ≡ last_use c v) → (size : ℕ) → instruction_at max_instructions ≤ size
-        → Turnable (is_used_behind last (i + 1)) (first_gate c.inputs + i) g (allocation_after c i) size
-    turnable l last u size room =
+    -- all that gate i asks for
+    pub turnable : Limited c → (size : ℕ) → instruction_at max_instructions ≤ size
+        → Turnable (is_used_from c (i + 1)) (first_gate c.inputs + i) g (allocation_after c i) size
+    turnable l size room =
         record {
           left-next = left-loadable;
           right-next = right-loadable;
-          operable = rw (wanted_read c last u i h) operable;
+          operable = rw (add-one i) operable;
           fits = omega (arith, fits l, room);
         }
 

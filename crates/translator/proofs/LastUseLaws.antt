@@ -66,20 +66,20 @@ used-from c j v h =
 
 -- ---- a loop that stores x at both operands of a gate
 
-pub operands-set : (g : Gate) (d : List ℕ) (x : ℕ) → g.left < length d → g.right < length d
-    → (v : ℕ) → get_or (set (set d g.left x) g.right x) v 0 ≡ first (is_operand v g) x (get_or d v 0)
-operands-set g d x l r v = at (ℕ_discrete v g.right) (ℕ_discrete v g.left)
+pub operands-set : {A : Type 0} (g : Gate) (d : List A) (x z : A) → g.left < length d → g.right < length d
+    → (v : ℕ) → get_or (set (set d g.left x) g.right x) v z ≡ first (is_operand v g) x (get_or d v z)
+operands-set {A} g d x z l r v = at (ℕ_discrete v g.right) (ℕ_discrete v g.left)
   where
-    once : List ℕ
+    once : List A
     once = set d g.left x
 
-    at : Dec (v ≡ g.right) → Dec (v ≡ g.left) → get_or (set once g.right x) v 0 ≡ first (is_operand v g) x (get_or d v 0)
+    at : Dec (v ≡ g.right) → Dec (v ≡ g.left) → get_or (set once g.right x) v z ≡ first (is_operand v g) x (get_or d v z)
     at (yes e) q =
-        rw (e, operand-right g) (get_or-set_same once g.right x 0 (rw length-set r))
+        rw (e, operand-right g) (get_or-set_same once g.right x z (rw length-set r))
     at (no e) (yes q) =
-        get_or-set_other once g.right v x 0 e ∙ rw (q, operand-left g) (get_or-set_same d g.left x 0 l)
+        get_or-set_other once g.right v x z e ∙ rw (q, operand-left g) (get_or-set_same d g.left x z l)
     at (no e) (no q) =
-        get_or-set_other once g.right v x 0 e ∙ get_or-set_other d g.left v x 0 q ∙ rw (ne_eqb v g.left q, ne_eqb v g.right e)
+        get_or-set_other once g.right v x z e ∙ get_or-set_other d g.left v x z q ∙ rw (ne_eqb v g.left q, ne_eqb v g.right e)
 
 -- the first i gates are in the table
 abbrev pub LastTo : (gs : List Gate) (d : List ℕ) (i : ℕ) → Type 0
@@ -93,7 +93,7 @@ pub last_more : (gs : List Gate) (d : List ℕ) (i : ℕ) (g : Gate) → LastTo 
     → LastTo gs (set (set d g.left (i + 1)) g.right (i + 1)) (i + 1)
 unfolding last_gate
 last_more gs d i g inv e l r v =
-    operands-set g d (i + 1) l r v ∙ rw add-one (ap₂ (λ x y. first (is_operand v x) (suc i) y) (sym e) (inv v))
+    operands-set g d (i + 1) 0 l r v ∙ rw add-one (ap₂ (λ x y. first (is_operand v x) (suc i) y) (sym e) (inv v))
 
 pub last-all : (t d : List ℕ) (i : ℕ) → i ≡ gates t → LastTo (gate_lines t) d i → LastTo (gate_lines t) d (gates t)
 last-all t d i e inv v = inv v ∙ ap (λ k. last_gate (gate_lines t) k v) e

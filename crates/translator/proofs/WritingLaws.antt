@@ -1,14 +1,15 @@
 -- The program in the lent buffer, instruction by instruction. Assumes nothing.
 use mathlib.Core.Path.{◌≡◌, refl, sym, ap, ap₂, ◌∙◌}
-use mathlib.Core.List.{List, [], ◌∷◌, ◌++◌}
+use mathlib.Core.List.{List, [], ◌∷◌, ◌++◌, append_assoc}
 use Prim.Native.Nat.{ℕ, zero, suc, ◌+◌, ◌*◌, ◌-◌, ◌≤◌}
-use native.Mathlib.Numerals.{add-one}
 use native.Mathlib.Omega.{arith}
-use lib.ListN.{length, drop, get_or, set, length-append, length-drop}
-use lib.Seq.{sets, length-sets, drop-drop, drop_at}
-use Rattle.lists.proofs.Stores.{add-two, add-three, sets_behind}
+use lib.ListN.{length, take, drop, get_or, take-append-drop, length-append, length-drop}
+use lib.Seq.{sets, length-take-le, length-sets, drop-drop, drop_at}
+use borrow.Rule.Slice.PartMut.{put_mid}
+use Rattle.lists.proofs.Stores.{sets_behind}
 use Rattle.lines.specs.Calls.{over}
 use Rattle.translator.specs.Machine.{Instruction}
+use Rattle.translator.specs.Instructions.{numbers_of}
 use Rattle.translator.specs.Program.{encode_program, instructions_of}
 use Rattle.translator.specs.Registers.{Beyond}
 use Rattle.translator.proofs.ShapeLaws.{encode-length, encode-append, instructions-encode}
@@ -37,10 +38,6 @@ encode-instructions (suc n) p h =
     ∙ four p (omega arith)
 
 -- ---- one instruction more
-
--- its four numbers
-abbrev pub numbers_of : Instruction → List ℕ
-numbers_of i = i.opcode ∷ i.arg1 ∷ i.arg2 ∷ i.arg3 ∷ []
 
 module _ (p : List ℕ) (n : ℕ) (i : Instruction) (h : 4 * n + 4 ≤ length p) where
   encoded-length : length (encode_program (instructions_of n p)) ≡ 4 * n
@@ -95,7 +92,19 @@ beyond-all p₀ p n is h b e =
     let l : 4 * n ≡ length (encode_program is) = sym (encode-length is ∙ ap (λ m. 4 * m) (sym (ap length e) ∙ instructions-length n p)) in
     sym (encode-instructions n p h) ∙ ap₂ (λ js r. encode_program js ++ r) e (b.beyond ∙ ap (λ k. drop k p₀) l)
 
--- four stores are an instruction
-pub instruction-stores : (p : List ℕ) (at a b c d : ℕ) → set (set (set (set p at a) (at + 1) b) (at + 2) c) (at + 3) d ≡ sets p at (a ∷ b ∷ c ∷ d ∷ [])
-instruction-stores p at a b c d =
-    ap (λ (k : ℕ × ℕ × ℕ). set (set (set (set p at a) k.0 b) k.1 c) k.2 d) (λ i. (add-one at i, add-two at i, add-three at i))
+-- a copy of its numbers is an instruction
+module _ (p : List ℕ) (n : ℕ) (i : Instruction) (h : 4 * (n + 1) ≤ length p) (k : ℕ) (e : k ≡ 4) (ns : List ℕ) (q : ns ≡ numbers_of i) where
+  behind : sets (take (4 * n) p ++ drop (4 * n) p) (4 * n) (numbers_of i) ≡ take (4 * n) p ++ (numbers_of i ++ drop 4 (drop (4 * n) p))
+  behind =
+      sets_behind (take (4 * n) p) (numbers_of i) (drop (4 * n) p) (4 * n) (length-take-le (4 * n) p (omega arith)) (rw length-drop (omega arith))
+      ∙ append_assoc (take (4 * n) p) (numbers_of i) (drop 4 (drop (4 * n) p))
+
+  copied : put_mid (4 * n) k p ns ≡ sets p (4 * n) (numbers_of i)
+  copied =
+      rw (e, q) (sym (ap (λ l. sets l (4 * n) (numbers_of i)) (sym (take-append-drop (4 * n) p)) ∙ behind))
+
+  pub push-code : instructions_of (n + 1) (put_mid (4 * n) k p ns) ≡ instructions_of n p ++ (i ∷ [])
+  push-code = ap (instructions_of (n + 1)) copied ∙ write-instruction p n i (omega arith)
+
+  pub push-beyond : Beyond p (put_mid (4 * n) k p ns) (n + 1)
+  push-beyond = rw copied (beyond-more p p n i (omega arith) (record { beyond = refl; long = refl }))

@@ -1,6 +1,6 @@
 -- The last use of each reference, as loops over the gates and outputs compute it. That `is_used_from` is a compare with it:
 -- `LastUseDecides` in Theorems.antt.
-use Rattle.std.specs.Prelude.{ℕ, zero, suc, ◌+◌, Bool, List, [], ◌∷◌, ltb, length, get_or}
+use Rattle.std.specs.Prelude.{ℕ, zero, suc, ◌+◌, List, [], ◌∷◌, length, get_or}
 use Rattle.lists.specs.First.{first}
 use Rattle.circuit.specs.Circuit.{Gate, Circuit, no_gate}
 use Rattle.circuit.specs.Path.{is_among, is_operand, is_output}
@@ -13,10 +13,6 @@ last_gate gs (suc k) v = first (is_operand v (get_or gs k no_gate)) (suc k) (las
 -- an output is used behind all gates
 unfoldable pub last_use : Circuit → (v : ℕ) → ℕ
 last_use c v = first (is_output c v) (suc (length c.gates)) (last_gate c.gates (length c.gates) v)
-
--- whether v is used behind the gate of that number, counted from 1, where `last` has the last uses
-abbrev pub is_used_behind : (last : List ℕ) (number v : ℕ) → Bool
-is_used_behind last number v = ltb number (get_or last v 0)
 
 -- how many different numbers a list has, from the last to the first: references among the outputs, registers among those written
 unfoldable pub count_distinct : List ℕ → ℕ

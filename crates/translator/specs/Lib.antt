@@ -10,6 +10,8 @@ pub mod Program
 pub mod LastUse
 pub mod Pressure
 pub mod Allocator
+pub mod Instructions
+pub mod RegisterArrays
 pub mod Registers
 pub mod Shape
 pub mod Written

@@ -1,16 +1,15 @@
 -- The call `translate`: what it gives back, and what the lent program buffer then holds, for every input.
-use Rattle.std.specs.Prelude.{ℕ, ◌*◌, Bool, not, ◌&&◌, List, [], ◌∷◌, ◌++◌, leb, ltb, length}
+use Rattle.std.specs.Prelude.{ℕ, ◌*◌, Bool, not, ◌&&◌, List, [], ◌∷◌, ◌++◌, leb, ltb, length, Result as Returned}
 use Rattle.lines.specs.Text.{is_partial}
-use Rattle.lines.specs.declared.Refusal.{Refusal}
-use Rattle.lines.specs.Refusal.{Result, refused, gives, no_table, Outcome}
+use Rattle.lines.specs.declared.refusing.Refusal.{Refusal as GivenRefusal}
+use Rattle.lines.specs.Refusal.{Refusal, Result, no_table, answer_of, Outcome}
 use Rattle.lines.specs.Checks.{found, check, answering, afterwards}
 use Rattle.lines.specs.Calls.{over}
 use Rattle.circuit.specs.Circuit.{Circuit}
 use Rattle.circuit.specs.Table.{decode}
 use Rattle.circuit.specs.Refusal.{refusal, circuit_table}
 use Rattle.circuit.specs.Trim.{trim}
-use Rattle.translator.specs.declared.Translated.{Translated}
-use Rattle.translator.specs.declared.Translated.TheVariants.{Program, Refused}
+use Rattle.translator.specs.declared.Translation.{Translation}
 use Rattle.translator.specs.Machine.{max_registers}
 use Rattle.translator.specs.Need.{need}
 use Rattle.translator.specs.Program.{program, encode_program, max_instructions}
@@ -24,9 +23,8 @@ abbrev pub is_limit : ℕ → Bool
 is_limit limit = leb 1 limit && leb limit max_registers
 
 -- 01, Register program, 14: a success gives the number of instructions and the need.
-abbrev pub paper_values : Translated → Result
-paper_values (Program instructions n) = gives (instructions ∷ n ∷ [])
-paper_values (Refused r) = refused r.number r.table
+abbrev pub paper_values : Returned Translation GivenRefusal → Result
+paper_values = answer_of (λ t. t.instructions ∷ t.need ∷ [])
 
 -- 01, Refusals, 2, and 02, 2026-01: 1 for the table; 2, for fewer than `program_numbers`, whatever the program needs; 4, 5, 11, 6, 7; 9.
 abbrev pub translate_checks : (circuit : List ℕ) (limit : ℕ) (buffer : List ℕ) → List Refusal

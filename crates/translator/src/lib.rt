@@ -1,8 +1,8 @@
 // Circuits as programs for a machine of few registers (01, Register program).
 #![tactic(auto)]
 
-ghost use Rattle.std.specs.Prelude.{◌≡◌};
-ghost use Rattle.lines.specs.Refusal.{leaving};
+ghost use Rattle.std.specs.Prelude.{◌≡◌, IfOk};
+ghost use Rattle.lines.specs.Refusal.{found_by, leaving};
 ghost use Rattle.lines.specs.Checks.{first_found};
 ghost use Rattle.translator.specs.TranslateCall.{is_limit, translate_checks, translating, paper_values as translated_values};
 
@@ -13,9 +13,8 @@ mod program;
 mod registers;
 mod writing;
 
-use circuit::CIRCUIT_TABLE;
-use circuit::checked::{MAX_OUTPUTS, MAX_REFERENCES, refusal};
-use lines::{NO_TABLE, Refusal, is_partial, refuse};
+use circuit::checked::{Circuit, MAX_OUTPUTS, MAX_REFERENCES, accept};
+use lines::{Reason, Refusal, Table, is_partial, refuse_if};
 use program::translate_accepted;
 
 // As many registers as a machine has at most.
@@ -24,47 +23,48 @@ pub const MAX_REGISTERS: usize = 1024;
 // As many numbers as a lent program buffer has at least: four for each constant, input, gate and output.
 pub const PROGRAM_NUMBERS: usize = 4 * (MAX_REFERENCES + MAX_OUTPUTS as usize);
 
-// How many instructions the program has, and the circuit's need, 01's word for its register pressure; or the refusal.
-#[derive(Clone, Copy)]
-pub enum Translated {
-    Program { instructions: u32, need: u32 },
-    Refused(Refusal),
+// How many instructions the program has, and the circuit's need, 01's word for its register pressure.
+#[derive(Clone, Copy, Debug, PartialEq, Eq)]
+pub struct Translation {
+    pub instructions: u32,
+    pub need: u32,
 }
 
 // Refusal 9 does not apply.
 fn is_limit(limit: u32) -> bool
     ensures { result ≡ is_limit limit }
 {
-    (1 <= limit) & (limit <= MAX_REGISTERS as u32)
+    (1..=MAX_REGISTERS as u32).contains(&limit)
 }
 
-// The refusal of a call of `translate` before the need is known, if there is one.
-fn translate_refusal(circuit: &[u32], limit: u32, program: &[u32]) -> Refusal
-    ensures { result ≡ first_found (translate_checks circuit.now limit program.now) }
+// The circuit of a call of `translate`, if no refusal applies before its need is known.
+fn accept_translate<'a>(
+    circuit: &'a [u32],
+    limit: u32,
+    program: &[u32],
+) -> Result<Circuit<'a>, Refusal>
+    ensures refusal { found_by result ≡ first_found (translate_checks circuit.now limit program.now) }
+    ensures accepted { IfOk result (λ c. c ≡ circuit.now) }
 {
-    if is_partial(circuit) {
-        return refuse(1, CIRCUIT_TABLE);
-    }
-    if program.len() < PROGRAM_NUMBERS {
-        return refuse(2, NO_TABLE);
-    }
-    let number = refusal(circuit);
-    if number != 0 {
-        return refuse(number, CIRCUIT_TABLE);
-    }
-    if !is_limit(limit) {
-        return refuse(9, NO_TABLE);
-    }
-    refuse(0, NO_TABLE)
+    refuse_if(
+        is_partial(circuit),
+        Reason::WrongLength,
+        Some(Table::Circuit),
+    )?;
+    refuse_if(
+        program.len() < PROGRAM_NUMBERS,
+        Reason::BufferTooShort,
+        None,
+    )?;
+    let accepted = accept(circuit)?;
+    refuse_if(!is_limit(limit), Reason::RegisterLimitOutOfRange, None)?;
+    Ok(accepted)
 }
 
 // The program of the circuit, trimmed, for a machine with `limit` registers, over the front of the lent buffer.
-pub fn translate(circuit: &[u32], limit: u32, program: &mut [u32]) -> Translated
+pub fn translate(circuit: &[u32], limit: u32, program: &mut [u32]) -> Result<Translation, Refusal>
     ensures { leaving (translated_values result) program.new ≡ translating circuit.now limit program.old }
 {
-    let refusal = translate_refusal(circuit, limit, program);
-    if refusal.number != 0 {
-        return Translated::Refused(refusal);
-    }
-    translate_accepted(circuit, limit, program)
+    let circuit = accept_translate(circuit, limit, program)?;
+    translate_accepted(&circuit, limit, program)
 }

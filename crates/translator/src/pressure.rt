@@ -1,102 +1,60 @@
 // The need, 01's word for the register pressure, counted in one pass over the gates (01, Register program, 10).
-ghost use Rattle.std.specs.Prelude.{◌≡◌, ℕ, ◌+◌, ◌<◌, length, get_or};
-ghost use Rattle.circuit.specs.Circuit.{no_gate, max_references};
-ghost use Rattle.circuit.specs.Table.{gates, gates_from, gate_lines, decode};
-ghost use Rattle.circuit.specs.Trim.{trim};
-ghost use Rattle.circuit.specs.WellFormed.{WellFormed};
-ghost use Rattle.translator.specs.LastUse.{last_use, count_distinct};
+ghost use Rattle.std.specs.Prelude.{◌≡◌, false, ◌||◌, ℕ, ◌+◌, ◌<◌, ◌≤◌, eqb, set, get_or};
+ghost use Rattle.circuit.specs.Circuit.{max_references};
+ghost use Rattle.circuit.specs.Table.{gates, decode};
+ghost use Rattle.translator.specs.LiveRange.{is_used_from};
 ghost use Rattle.translator.specs.Actions.{is_unloaded};
-ghost use Rattle.translator.specs.Pressure.{one_if, arrivals, departures, pressure_after, linear_need};
+ghost use Rattle.translator.specs.Need.{need as need_of};
+ghost use Rattle.translator.specs.Pressure.{one_if, pressure_after};
 
-use circuit::checked::{CONSTANTS, MAX_REFERENCES, gate_line, gates_from, larger};
+use crate::last_use::LiveRanges;
+use circuit::checked::{Gate, MAX_REFERENCES};
+use std::mem::take;
 
-// How many of the two are true.
-fn count_true(a: bool, b: bool) -> u32
-    ensures { result ≡ one_if a + one_if b }
+// How many of a gate's operands are marked as unloaded, and so are values that it loads. It unmarks both.
+fn arrivals(gate: Gate, unloaded: &mut [bool; MAX_REFERENCES]) -> u32
+    requires { (gate.left < max_references) × (gate.right < max_references) }
+    ensures value { result ≡ one_if (get_or unloaded.old gate.left false) + one_if (get_or (set unloaded.old gate.left false) gate.right false) }
+    ensures unmarked { unloaded.new ≡ set (set unloaded.old gate.left false) gate.right false }
 {
-    a as u32 + b as u32
-}
-
-// Constants and inputs are marked as unloaded: no gate has used one.
-fn mark_sources(t: &[u32], unloaded: &mut [u8; MAX_REFERENCES])
-    requires well_formed { WellFormed t.now }
-    requires unloaded_len { length unloaded.old ≡ max_references }
-    requires by_index { (v : ℕ) → get_or unloaded.old v 0 ≡ 0 }
-    ensures by_index_2 { (v : ℕ) → get_or unloaded.new v 0 ≡ one_if (is_unloaded (decode t.now) 0 v) }
-    ensures unloaded_len_2 { length unloaded.new ≡ max_references }
-{
-    let first_gate = (t[0] + CONSTANTS) as usize;
-    for v in 0..first_gate {
-        unloaded[v] = 1;
-    }
-}
-
-// How many values gate i loads: those of its operands that are marked as unloaded. It unmarks both.
-fn arrivals(t: &[u32], from: usize, i: usize, unloaded: &mut [u8; MAX_REFERENCES]) -> u32
-    requires well_formed { WellFormed t.now }
-    requires from_value { from ≡ gates_from t.now }
-    requires i_bound { i < gates t.now }
-    requires unloaded_len { length unloaded.old ≡ max_references }
-    requires by_index { (v : ℕ) → get_or unloaded.old v 0 ≡ one_if (is_unloaded (decode t.now) i v) }
-    ensures value { result ≡ arrivals (decode t.now) i (get_or (gate_lines t.now) i no_gate) }
-    ensures by_index_2 { (v : ℕ) → get_or unloaded.new v 0 ≡ one_if (is_unloaded (decode t.now) (i + 1) v) }
-    ensures unloaded_len_2 { length unloaded.new ≡ max_references }
-{
-    let line = gate_line(t, from, i);
-    let left = unloaded[line.left as usize];
-    unloaded[line.left as usize] = 0;
-    let right = unloaded[line.right as usize];
-    unloaded[line.right as usize] = 0;
+    let left = take(&mut unloaded[gate.left as usize]);
+    let right = take(&mut unloaded[gate.right as usize]);
     left as u32 + right as u32
 }
 
-// How many of its operands gate i is not the last to use. Two equal ones are one value, and the right one stands for it.
-fn kept_operands(t: &[u32], from: usize, i: usize, last: &[u16; MAX_REFERENCES]) -> u32
-    requires well_formed { WellFormed t.now }
-    requires from_value { from ≡ gates_from t.now }
-    requires i_bound { i < gates t.now }
-    requires by_index { (v : ℕ) → get_or last.now v 0 ≡ last_use (decode t.now) v }
-    ensures { result + departures (decode t.now) i (get_or (gate_lines t.now) i no_gate) ≡ 2 }
+// How many of its operands a gate is not the last to use, where `number` is the gate's, counted from 1.
+fn kept_operands(ranges: &LiveRanges<'_>, gate: Gate, number: u16) -> u32
+    requires operands_bound { (gate.left < max_references) × (gate.right < max_references) }
+    requires number_bound { number ≤ gates ranges.now.circuit }
+    ensures { result ≡ one_if (eqb gate.left gate.right || is_used_from (decode ranges.now.circuit) number gate.left)
+        + one_if (is_used_from (decode ranges.now.circuit) number gate.right) }
 {
-    let line = gate_line(t, from, i);
-    let number = i as u16 + 1;
-    let left = (line.left == line.right) | (number < last[line.left as usize]);
-    let right = number < last[line.right as usize];
-    count_true(left, right)
+    let (left, right) = ranges.kept(gate, number);
+    left as u32 + right as u32
 }
 
 // The most values held just before or just after a gate's operation. What is held just after one is held before the next one too, so
 // that only the last gate's is looked at by itself.
-fn most_held(t: &[u32], last: &[u16; MAX_REFERENCES], unloaded: &mut [u8; MAX_REFERENCES]) -> u32
-    requires well_formed { WellFormed t.now }
-    requires t_value { trim (decode t.now) ≡ decode t.now }
-    requires by_index { (v : ℕ) → get_or last.now v 0 ≡ last_use (decode t.now) v }
-    requires unloaded_len { length unloaded.old ≡ max_references }
-    requires by_index_2 { (v : ℕ) → get_or unloaded.old v 0 ≡ one_if (is_unloaded (decode t.now) 0 v) }
-    ensures { result ≡ (pressure_after (decode t.now) (gates t.now)).most }
+fn most_held(ranges: &LiveRanges<'_>, unloaded: &mut [bool; MAX_REFERENCES]) -> u32
+    requires { (v : ℕ) → get_or unloaded.old v false ≡ is_unloaded (decode ranges.now.circuit) 0 v }
+    ensures { result ≡ (pressure_after (decode ranges.now.circuit) (gates ranges.now.circuit)).most }
 {
-    let from = gates_from(t);
-    let gates = t[1] as usize;
     let mut held = 0;
-    let mut most = 0;
-    for i in 0..gates {
-        let before = held + arrivals(t, from, i, unloaded);
-        most = larger(most, before);
-        held = before + kept_operands(t, from, i, last) - 1;
+    let mut most: u32 = 0;
+    for i in 0..ranges.circuit.gates() {
+        let gate = ranges.circuit.gate(i);
+        let before = held + arrivals(gate, unloaded);
+        most = most.max(before);
+        held = before + kept_operands(ranges, gate, i as u16 + 1) - 1;
     }
-    larger(most, held)
+    most.max(held)
 }
 
-// The need, counted in one pass.
-pub fn need(t: &[u32], last: &[u16; MAX_REFERENCES], distinct: u32) -> u32
-    requires well_formed { WellFormed t.now }
-    requires t_value { trim (decode t.now) ≡ decode t.now }
-    requires last_len { length last.now ≡ max_references }
-    requires by_index { (v : ℕ) → get_or last.now v 0 ≡ last_use (decode t.now) v }
-    requires distinct_value { distinct ≡ count_distinct (decode t.now).outputs }
-    ensures { result ≡ linear_need (decode t.now) }
+// The need, counted in one pass. Constants and inputs are marked as unloaded at first: no gate has used one.
+pub fn need(ranges: &LiveRanges<'_>) -> u32
+    ensures { result ≡ need_of (decode ranges.now.circuit) }
 {
-    let mut unloaded = [0u8; MAX_REFERENCES];
-    mark_sources(t, &mut unloaded);
-    larger(most_held(t, last, &mut unloaded), distinct)
+    let mut unloaded = [false; MAX_REFERENCES];
+    unloaded[..ranges.circuit.first_gate() as usize].fill(true);
+    most_held(ranges, &mut unloaded).max(ranges.distinct)
 }

@@ -1,119 +1,107 @@
-// Which register holds which value, in arrays: `owner` says for each register 0 or 1 more than the reference whose value it holds, `freed`
-// is the stack of free registers, and `place` spares the search for a value's register. What a place says counts only if the owner agrees.
-ghost use Rattle.std.specs.Prelude.{◌≡◌, true, false, List, ℕ, suc, ◌+◌, ◌-◌, ◌<◌, ◌≤◌, eqb, length, take, get_or};
-ghost use Rattle.lists.specs.First.{first};
+// Which register holds which value (01, Register program, 9). What a place says counts only if the owner agrees.
+ghost use Rattle.std.specs.Prelude.{◌≡◌, true, false, List, ℕ, suc, ◌+◌, ◌-◌, ◌<◌, ◌≤◌, ◌++◌, [], ◌∷◌, length, set, get_or};
 ghost use Rattle.circuit.specs.Circuit.{max_references};
 ghost use Rattle.circuit.specs.Path.{is_among};
-ghost use Rattle.translator.specs.Machine.{operating, max_registers};
-ghost use Rattle.translator.specs.Allocation.{next_register, assign, release};
-ghost use Rattle.translator.specs.Registers.{instruction_at, stack_of, allocation_of, counts_after, RegisterArrays, Represents};
+ghost use Rattle.translator.specs.Machine.{Instruction, max_registers};
+ghost use Rattle.translator.specs.Allocation.{register_of, next_register, assign, release};
+ghost use Rattle.translator.specs.RegisterArrays.{RegisterArrays};
 
 use crate::MAX_REGISTERS;
-use crate::writing::write_instruction;
 use circuit::checked::MAX_REFERENCES;
 
-// How many registers are free again, how many were ever used, and how many instructions are written.
-#[derive(Clone, Copy)]
-pub struct Counts {
+// `owner` says for each register 0 or 1 more than the reference whose value it holds, as `Allocation` of the specs does: with an Option
+// there, every law would say besides how one becomes the other. The first `free` of `freed` are a stack of the free registers among the
+// first `fresh`, which are those ever used, and `place` spares the search for a value's register.
+#[derive(Drop)]
+pub struct Registers {
+    pub owner: [u16; MAX_REGISTERS],
+    pub freed: [u16; MAX_REGISTERS],
     pub free: usize,
     pub fresh: usize,
-    pub written: usize,
+    pub place: [u16; MAX_REFERENCES],
+    pub ghost arrays: { RegisterArrays owner freed place free fresh },
 }
 
-// Whether v is in a register.
-pub fn is_held(owner: &[u16; MAX_REGISTERS], place: &[u16; MAX_REFERENCES], v: usize) -> bool
-    requires v_lt_max_references { v < max_references }
-    requires v_bound { get_or place.now v 0 < max_registers }
-    ensures { result ≡ eqb (get_or owner.now (get_or place.now v 0) 0) (suc v) }
-{
-    owner[place[v] as usize] == v as u16 + 1
-}
+impl Registers {
+    ghost use Rattle.translator.specs.Registers.{owners_of, freed_of, allocation_with};
 
-// The register freed last, or else the lowest never used.
-fn next_register(freed: &[u16; MAX_REGISTERS], counts: Counts) -> u16
-    requires free_le_max_registers { counts.free ≤ max_registers }
-    requires fresh_le_max_registers { counts.fresh ≤ max_registers }
-    ensures { result ≡ first (eqb counts.free 0) counts.fresh (get_or freed.now (counts.free - 1) 0) }
-{
-    if counts.free == 0 {
-        return counts.fresh as u16;
-    }
-    freed[counts.free - 1]
-}
-
-// The counts when that one is taken and `written` instructions are written.
-fn counts_after(counts: Counts, written: usize) -> Counts
-    requires { counts.fresh ≤ max_registers }
-    ensures { result ≡ counts_after counts written }
-{
-    if counts.free == 0 {
-        return Counts {
+    // Nothing is in any register, and none was ever used.
+    pub fn new() -> Self
+        ensures { (code : List Instruction) → allocation_with result code ≡ record { owners = []; freed = []; code = code } }
+    {
+        Registers {
+            owner: [0; MAX_REGISTERS],
+            freed: [0; MAX_REGISTERS],
             free: 0,
-            fresh: counts.fresh + 1,
-            written: written,
-        };
+            fresh: 0,
+            place: [0; MAX_REFERENCES],
+        }
     }
-    Counts {
-        free: counts.free - 1,
-        fresh: counts.fresh,
-        written: written,
-    }
-}
 
-// v, which is in no register, takes the next one, by the instruction that puts its value there.
-pub fn assign_register(
-    owner: &mut [u16; MAX_REGISTERS],
-    freed: &[u16; MAX_REGISTERS],
-    place: &mut [u16; MAX_REFERENCES],
-    buffer: &mut [u32],
-    counts: Counts,
-    v: usize,
-    opcode: u32,
-    a: u32,
-    b: u32,
-) -> Counts
-    requires register_arrays { RegisterArrays owner.old freed.now place.old counts.free counts.fresh }
-    requires v_lt_max_references { v < max_references }
-    requires owner_value { is_among (suc v) (take counts.fresh owner.old) ≡ false }
-    requires free_bound { next_register (take counts.fresh owner.old) (stack_of freed.now counts.free) < max_registers }
-    requires written_in_bounds { instruction_at (counts.written + 1) ≤ length buffer.old }
-    ensures { Represents owner.new freed.now place.new buffer.new result buffer.old
-        (assign v (λ d. operating opcode d a b) (allocation_of owner.old freed.now buffer.old counts)) }
-{
-    let d = next_register(freed, counts);
-    owner[d as usize] = v as u16 + 1;
-    place[v] = d;
-    write_instruction(buffer, counts.written, opcode, d as u32, a, b);
-    counts_after(counts, counts.written + 1)
-}
-
-// The register of v is free from now on, unless v is to be kept.
-pub fn release(
-    owner: &mut [u16; MAX_REGISTERS],
-    freed: &mut [u16; MAX_REGISTERS],
-    place: &[u16; MAX_REFERENCES],
-    counts: Counts,
-    keep: bool,
-    v: usize,
-) -> Counts
-    requires register_arrays { RegisterArrays owner.old freed.old place.now counts.free counts.fresh }
-    requires v_lt_max_references { v < max_references }
-    requires owner_value { is_among (suc v) (take counts.fresh owner.old) ≡ true }
-    requires free_lt_max_registers { keep ≡ false → counts.free < max_registers }
-    ensures register_arrays_2 { RegisterArrays owner.new freed.new place.now result.free result.fresh }
-    ensures by_index { (p : List ℕ) → allocation_of owner.new freed.new p result
-        ≡ release keep v (allocation_of owner.old freed.old p counts) }
-{
-    if keep {
-        return counts;
+    // Whether v is in a register.
+    pub fn holds(&self, v: usize) -> bool
+        requires { v < max_references }
+        ensures { result ≡ is_among (suc v) (owners_of self.now) }
+    {
+        self.owner[self.place[v] as usize] == v as u16 + 1
     }
-    let free = counts.free;
-    let d = place[v];
-    owner[d as usize] = 0;
-    freed[free] = d;
-    Counts {
-        free: free + 1,
-        fresh: counts.fresh,
-        written: counts.written,
+
+    // The register of v, which is in one.
+    pub fn register_of(&self, v: usize) -> u16
+        requires v_lt_max_references { v < max_references }
+        requires held { is_among (suc v) (owners_of self.now) ≡ true }
+        ensures { result ≡ register_of (owners_of self.now) v }
+    {
+        self.place[v]
+    }
+
+    // v, which is in no register, is put into d, which was used before.
+    fn put(&mut self, v: usize, d: u16) -> u16
+        requires v_lt_max_references { v < max_references }
+        requires absent { is_among (suc v) (owners_of self.old) ≡ false }
+        requires used { d < self.old.fresh }
+        ensures value { result ≡ d }
+        ensures owner { self.new.owner ≡ set self.old.owner d (suc v) }
+        ensures freed { self.new.freed ≡ self.old.freed }
+        ensures free { self.new.free ≡ self.old.free }
+        ensures fresh { self.new.fresh ≡ self.old.fresh }
+    {
+        self.owner[d as usize] = v as u16 + 1;
+        self.place[v] = d;
+        d
+    }
+
+    // v, which is in no register, takes the register freed last, or else the lowest never used.
+    pub fn take(&mut self, v: usize) -> u16
+        requires v_lt_max_references { v < max_references }
+        requires absent { is_among (suc v) (owners_of self.old) ≡ false }
+        requires next_lt_max_registers { next_register (owners_of self.old) (freed_of self.old) < max_registers }
+        ensures { (make : ℕ → Instruction) (code : List Instruction) → allocation_with self.new (code ++ make result ∷ [])
+            ≡ assign v make (allocation_with self.old code) }
+    {
+        if self.free == 0 {
+            let d = self.fresh as u16;
+            self.fresh += 1;
+            return self.put(v, d);
+        }
+        self.free -= 1;
+        let d = self.freed[self.free];
+        self.put(v, d)
+    }
+
+    // The register of v is free from now on, unless v is to be kept.
+    pub fn release(&mut self, keep: bool, v: usize)
+        requires v_lt_max_references { v < max_references }
+        requires held { is_among (suc v) (owners_of self.old) ≡ true }
+        requires free_lt_max_registers { keep ≡ false → length (freed_of self.old) < max_registers }
+        ensures { (code : List Instruction) → allocation_with self.new code ≡ release keep v (allocation_with self.old code) }
+    {
+        if keep {
+            return;
+        }
+        let d = self.place[v];
+        self.owner[d as usize] = 0;
+        self.freed[self.free] = d;
+        self.free += 1;
     }
 }

@@ -1,20 +1,43 @@
-// Instructions in the lent buffer, four numbers each.
-ghost use Rattle.std.specs.Prelude.{◌≡◌, [], ◌∷◌, ◌+◌, ◌≤◌, length};
-ghost use Rattle.std.proofs.lemmas.List.Edits.{sets};
-ghost use Rattle.translator.specs.Registers.{instruction_at};
+// The instructions of a program, four numbers each (01, Register program, 2).
+ghost use Rattle.std.specs.Prelude.{◌≡◌};
+ghost use Rattle.translator.specs.Instructions.{numbers_of, said_by};
 
-pub const EMIT: u32 = 3;
+use circuit::checked::Kind;
 
-pub const LOAD: u32 = 4;
+// The operation's opcode is its gate's kind.
+#[derive(Clone, Copy)]
+pub enum Instruction {
+    Operate {
+        kind: Kind,
+        register: u16,
+        left: u16,
+        right: u16,
+    },
+    Emit {
+        register: u16,
+    },
+    Load {
+        register: u16,
+        reference: u32,
+    },
+}
 
-// Instruction n.
-pub fn write_instruction(buffer: &mut [u32], n: usize, opcode: u32, a: u32, b: u32, c: u32)
-    requires { instruction_at (n + 1) ≤ length buffer.old }
-    ensures { buffer.new ≡ sets buffer.old (instruction_at n) (opcode ∷ a ∷ b ∷ c ∷ []) }
-{
-    let at = 4 * n;
-    buffer[at] = opcode;
-    buffer[at + 1] = a;
-    buffer[at + 2] = b;
-    buffer[at + 3] = c;
+impl Instruction {
+    pub fn numbers(self) -> [u32; 4]
+        ensures { result ≡ numbers_of (said_by self) }
+    {
+        match self {
+            Instruction::Operate {
+                kind,
+                register,
+                left,
+                right,
+            } => [u32::from(kind), register as u32, left as u32, right as u32],
+            Instruction::Emit { register } => [3, register as u32, 0, 0],
+            Instruction::Load {
+                register,
+                reference,
+            } => [4, register as u32, reference, 0],
+        }
+    }
 }

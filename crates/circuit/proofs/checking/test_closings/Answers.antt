@@ -21,4 +21,8 @@ loop-i-preserved c = let s = c.args in
 pub returns : goal.returns
 returns c = let s = c.args in
     let l = c.loop-i in
-    let h = c.loop-i-test.false in record { kinds_value = tests-end is_closing 0 s.q s.n s.t.now s.earlier.kinds l.i l.tested.kinds l.invariant.1 h; references_value = tests-end (reference_below s.top) 0 s.q s.n s.t.now s.earlier.references l.i l.tested.references l.invariant.2 h }
+    let h = c.loop-i-test.false in
+    record {
+      kinds_value = tests-end is_closing 0 s.q s.n s.t.now s.earlier.kinds l.i l.tested.kinds l.invariant.1 h;
+      references_value = tests-end (reference_below s.top) 0 s.q s.n s.t.now s.earlier.references l.i l.tested.references l.invariant.2 h;
+    }

@@ -5,8 +5,11 @@ use borrow.Author.Rules.{rules}
 use Rattle.circuit.proofs.checking.test_gates.Goals as goal
 
 pub loop-i-init : goal.loop-i-init
-loop-i-init c = let s = c.args in
-    (search rules, tests-none has_gate_kind s.first s.q s.n s.t.now s.earlier.kinds, tests-none operands_below s.first s.q s.n s.t.now s.earlier.references)
+loop-i-init c = let s = c.args in (
+  search rules,
+  tests-none has_gate_kind s.first s.q s.n s.t.now s.earlier.kinds,
+  tests-none operands_below s.first s.q s.n s.t.now s.earlier.references,
+)
 
 pub loop-i-preserved : goal.loop-i-preserved
 loop-i-preserved c = let s = c.args in
@@ -21,4 +24,8 @@ loop-i-preserved c = let s = c.args in
 pub returns : goal.returns
 returns c = let s = c.args in
     let l = c.loop-i in
-    let h = c.loop-i-test.false in record { kinds_value = tests-end has_gate_kind s.first s.q s.n s.t.now s.earlier.kinds l.i l.tested.kinds l.invariant.1 h; references_value = tests-end operands_below s.first s.q s.n s.t.now s.earlier.references l.i l.tested.references l.invariant.2 h }
+    let h = c.loop-i-test.false in
+    record {
+      kinds_value = tests-end has_gate_kind s.first s.q s.n s.t.now s.earlier.kinds l.i l.tested.kinds l.invariant.1 h;
+      references_value = tests-end operands_below s.first s.q s.n s.t.now s.earlier.references l.i l.tested.references l.invariant.2 h;
+    }

@@ -5,34 +5,59 @@ use mathlib.Core.Path.{ap}
 use Rattle.circuit.proofs.BackwardLaws.{raised-none, raised-more, raised-limit, raised_all}
 use Rattle.circuit.proofs.CriticalLaws.{counted_none, counted-more, counted-all, count-limit, depth-fits}
 use borrow.Author.Rules.{rules}
+use Rattle.circuit.specs.Circuit.{gate_of}
 use Rattle.circuit.proofs.critical.critical_with_reverse_depths.Goals as goal
 
 pub loop-i-init : goal.loop-i-init
-loop-i-init c = (search rules, raised-none c.args.t.now c.args.u.now _ c.mark_outputs.ensures, counted_none c.args.t.now)
+loop-i-init c =
+    rw c.gates-i.ensures.value
+    (search rules, raised-none c.args.circuit.now c.args.u.now _ c.mark_outputs.ensures, counted_none c.args.circuit.now)
 
 pub critical_here-count-requires : goal.critical_here-count-requires
 critical_here-count-requires c = let l = c.loop-i in
-    let t = c.args.t.now in
-    let n = ap (λ m. m + (l.i - 1)) c.first_gate-first.ensures in record { depth_le_max_depth = depth-fits t l.count l.i l.invariant.2 c.args.d.now c.requires.well_formed c.requires.d_value (l.i - 1) (search rules) _ n; reverse_bound = raised-limit t _ l.u c.requires.well_formed l.i l.invariant.1 (c.first_gate-first.result + (l.i - 1)) (search rules) }
+    let t = c.args.circuit.now in
+    let n = ap (λ m. m + (l.i - 1)) c.first_gate-first.ensures.value in
+    record {
+      depth_le_max_depth = depth-fits t l.count l.i l.invariant.2 c.args.d.now c.first_gate-first.ensures.well_formed c.requires.d_value
+          (l.i - 1) (search rules) _ n;
+      reverse_bound = raised-limit t _ l.u c.first_gate-first.ensures.well_formed l.i l.invariant.1 (c.first_gate-first.result + (l.i - 1))
+          (search rules);
+    }
 
 pub overflow_add-count : goal.overflow_add-count
 overflow_add-count c = let l = c.loop-i in
-    omega (arith, count-limit c.args.t.now l.count l.i l.invariant.2 c.requires.well_formed, c.critical_here-count.ensures.upper_bound)
+    omega (
+      arith,
+      count-limit c.args.circuit.now l.count l.i l.invariant.2 c.first_gate-first.ensures.well_formed,
+      c.critical_here-count.ensures.upper_bound,
+    )
 
 pub raise_operands-requires : goal.raise_operands-requires
 raise_operands-requires c = let l = c.loop-i in
-    let t = c.args.t.now in record { own_in_bounds = search rules; left_in_bounds = search rules; own_bound = raised-limit t _ l.u c.requires.well_formed l.i l.invariant.1 (c.first_gate-first.result + (l.i - 1)) (search rules) }
+    let t = c.args.circuit.now in
+    record {
+      own_in_bounds = search rules;
+      left_in_bounds = search rules;
+      own_bound = raised-limit t _ l.u c.first_gate-first.ensures.well_formed l.i l.invariant.1 (c.first_gate-first.result + (l.i - 1))
+          (search rules);
+    }
 
 pub loop-i-preserved : goal.loop-i-preserved
 loop-i-preserved c = let l = c.loop-i in
-    let t = c.args.t.now in
-    let g = c.gate_line-g in
-    let n = ap (λ m. m + (l.i - 1)) c.first_gate-first.ensures in (
+    let t = c.args.circuit.now in
+    let g = c.gate-g in
+    let n = ap (λ m. m + (l.i - 1)) c.first_gate-first.ensures.value in (
       search rules,
-      raised-more t _ l.u c.requires.well_formed l.i l.invariant.1 _ (l.i - 1) (search rules) (search rules) _ n g.result g.ensures.value c.raise_operands.ensures,
-      counted-more t l.count l.i l.invariant.2 c.args.d.now c.requires.well_formed c.requires.d_value (l.i - 1) (search rules) _ n _ l.u l.invariant.1 (search rules)
-          g.result g.ensures.value c.args.deepest c.requires.deepest_value _ c.critical_here-count.ensures.value,
+      raised-more t _ l.u c.first_gate-first.ensures.well_formed l.i l.invariant.1 _ (l.i - 1) (search rules) (search rules) _ n
+          (gate_of g.result) g.ensures.value c.raise_operands.ensures,
+      counted-more t l.count l.i l.invariant.2 c.args.d.now c.first_gate-first.ensures.well_formed c.requires.d_value (l.i - 1)
+          (search rules) _ n _ l.u l.invariant.1 (search rules)
+          (gate_of g.result) g.ensures.value c.args.deepest c.requires.deepest_value _ c.critical_here-count.ensures.value,
     )
 
 pub returns : goal.returns
-returns c = let l = c.loop-i in record { value = counted-all c.args.t.now l.count l.i l.invariant.2 (search rules); u_after = raised_all c.args.t.now c.args.u.now _ c.mark_outputs.ensures l.u l.i l.invariant.1 (search rules) }
+returns c = let l = c.loop-i in
+    record {
+      value = counted-all c.args.circuit.now l.count l.i l.invariant.2 (search rules);
+      u_after = raised_all c.args.circuit.now c.args.u.now _ c.mark_outputs.ensures l.u l.i l.invariant.1 (search rules);
+    }

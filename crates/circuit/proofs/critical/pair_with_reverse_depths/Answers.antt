@@ -5,10 +5,21 @@ use borrow.Author.Rules.{rules}
 use Rattle.circuit.proofs.critical.pair_with_reverse_depths.Goals as goal
 
 pub output_depth-deepest-requires : goal.output_depth-deepest-requires
-output_depth-deepest-requires c = record { well_formed = c.requires.well_formed; t_in_bounds = search rules; d_value = depths-front c.args.t.now _ _ c.depths.ensures }
+output_depth-deepest-requires c = record { t_in_bounds = search rules; d_value = depths-front c.args.circuit.now _ _ c.depths.ensures }
 
-pub critical_with_reverse_depths-count-requires : goal.critical_with_reverse_depths-count-requires
-critical_with_reverse_depths-count-requires c = record { well_formed = c.requires.well_formed; t_in_bounds = search rules; t_in_bounds_2 = search rules; d_value = depths-front c.args.t.now _ _ c.depths.ensures; deepest_value = c.output_depth-deepest.ensures }
+pub critical_with_reverse_depths-critical-requires : goal.critical_with_reverse_depths-critical-requires
+critical_with_reverse_depths-critical-requires c =
+    record {
+      t_in_bounds = search rules;
+      t_in_bounds_2 = search rules;
+      d_value = depths-front c.args.circuit.now _ _ c.depths.ensures;
+      deepest_value = c.output_depth-deepest.ensures;
+    }
 
 pub returns : goal.returns
-returns c = let counted = c.critical_with_reverse_depths-count.ensures in record { value = ap₂ (λ a b. record { depth = a; critical = b }) c.output_depth-deepest.ensures counted.value; d_after = c.depths.ensures; u_after = counted.u_after }
+returns c = let counted = c.critical_with_reverse_depths-critical.ensures in
+    record {
+      value = ap₂ (λ a b. record { depth = a; critical = b }) c.output_depth-deepest.ensures counted.value;
+      d_after = c.depths.ensures;
+      u_after = counted.u_after;
+    }

@@ -4,7 +4,12 @@ use borrow.Author.Rules.{rules}
 use Rattle.circuit.proofs.depth.depths.Goals as goal
 
 pub depths_from-requires : goal.depths_from-requires
-depths_from-requires c = record { well_formed = c.requires.well_formed; t_in_bounds = search rules; start_bound = search rules; d_value = depths-none c.args.t.now c.args.d.now _ c.start_levels.ensures }
+depths_from-requires c =
+    record {
+      t_in_bounds = search rules;
+      start_bound = search rules;
+      d_value = depths-none c.args.circuit.now c.args.d.now _ c.start_levels.ensures;
+    }
 
 pub returns : goal.returns
-returns c = depths-over c.args.t.now c.args.d.now _ c.start_levels.ensures _ c.depths_from.ensures
+returns c = depths-over c.args.circuit.now c.args.d.now _ c.start_levels.ensures _ c.depths_from.ensures

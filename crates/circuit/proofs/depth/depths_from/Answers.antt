@@ -1,21 +1,32 @@
 -- Laws of `DepthsTo`: the depths of the first i gates are there.
 use Rattle.circuit.proofs.DepthLaws.{depths-resumed, depth-limit, depths-more, depths-all}
 use borrow.Author.Rules.{rules}
+use Rattle.circuit.specs.Circuit.{gate_of}
 use Rattle.circuit.proofs.depth.depths_from.Goals as goal
 
 pub loop-i-init : goal.loop-i-init
-loop-i-init c = (search rules, depths-resumed c.args.t.now c.args.d.now c.args.start c.requires.d_value)
+loop-i-init c = (search rules, depths-resumed c.args.circuit.now c.args.d.now c.args.start c.requires.d_value)
 
 pub gate_depth-requires : goal.gate_depth-requires
-gate_depth-requires c = let g = c.gate_line-g in
+gate_depth-requires c = let g = c.gate-g in
     let l = c.loop-i in
-    let limit = depth-limit c.args.t.now c.args.d.now c.requires.well_formed c.requires.t_in_bounds l.d l.i l.invariant.1 l.invariant.0 in record { a_le_max_depth = limit g.result.left g.ensures.left_bound.0; b_le_max_depth = limit g.result.right g.ensures.left_bound.1 }
+    let limit =
+    depth-limit c.args.circuit.now c.args.d.now c.first_gate-first.ensures.well_formed c.requires.t_in_bounds l.d l.i l.invariant.1
+    (search rules) in
+    record {
+      a_le_max_depth = limit g.result.left g.ensures.operands_bound.0;
+      b_le_max_depth = limit g.result.right g.ensures.operands_bound.1;
+    }
 
 pub loop-i-preserved : goal.loop-i-preserved
-loop-i-preserved c = let g = c.gate_line-g in
-    let l = c.loop-i in
-    (search rules, depths-more c.args.t.now c.args.d.now c.requires.well_formed c.requires.t_in_bounds l.d l.i l.invariant.1 c.loop-i-test.true _ c.first_gate-first.ensures _ g.result g.ensures.value c.gate_depth.ensures)
+loop-i-preserved c = let g = c.gate-g in
+    let l = c.loop-i in (
+      search rules,
+      depths-more c.args.circuit.now c.args.d.now c.first_gate-first.ensures.well_formed c.requires.t_in_bounds l.d l.i l.invariant.1
+          (search rules) _ c.first_gate-first.ensures.value _ (gate_of g.result) g.ensures.value c.gate_depth.ensures,
+    )
 
 pub returns : goal.returns
 returns c = let l = c.loop-i in
-    depths-all c.args.t.now c.args.d.now c.requires.well_formed c.requires.t_in_bounds l.d l.i l.invariant.1 l.invariant.0 c.loop-i-test.false
+    depths-all c.args.circuit.now c.args.d.now c.first_gate-first.ensures.well_formed c.requires.t_in_bounds l.d l.i l.invariant.1
+    (search rules) (search rules)

@@ -7,4 +7,4 @@ use Rattle.circuit.specs.Table.{decode}
 use Rattle.circuit.proofs.depth.output_depth.Given as goal
 
 abbrev pub invariant-loop-i : goal.invariant-loop-i
-invariant-loop-i l = (l.i ≤ l.outputs) × (max l.deepest (largest (map (depth (decode l.t)) (drop l.i (decode l.t).outputs))) ≡ largest (map (depth (decode l.t)) (decode l.t).outputs))
+invariant-loop-i l = (l.i ≤ l.i-end) × (max l.deepest (largest (map (depth (decode l.circuit)) (drop l.i (decode l.circuit).outputs))) ≡ largest (map (depth (decode l.circuit)) (decode l.circuit).outputs))

@@ -6,5 +6,5 @@ use Rattle.circuit.proofs.DepthLaws.{levels-over}
 use Rattle.circuit.proofs.depth.start_levels.Goals as goal
 
 pub returns : goal.returns
-returns c = let zeros = c.clear.ensures ∙ ap (λ n. over (replicate n 0) c.args.d.now) c.first_gate.ensures in
-    levels-over c.args.t.now c.args.d.now _ _ c.requires.well_formed zeros c.set_levels.ensures
+returns c = let zeros = c.clear.ensures ∙ ap (λ n. over (replicate n 0) c.args.d.now) c.first_gate.ensures.value in
+    levels-over c.args.circuit.now c.args.d.now _ _ c.first_gate.ensures.well_formed zeros c.set_levels.ensures

@@ -1,4 +1,3 @@
-use Prim.Native.Nat.{◌≤◌}
 use lib.ListN.{length, take}
 use Rattle.lists.proofs.Each.{Filled}
 use Rattle.circuit.specs.Evaluation.{bit_op}
@@ -7,4 +6,4 @@ use Rattle.circuit.specs.Table.{gate_lines}
 use Rattle.circuit.proofs.evaluating.run_gates.Given as goal
 
 abbrev pub invariant-loop-i : goal.invariant-loop-i
-invariant-loop-i l = (l.i ≤ l.gates) × Filled (gate_value bit_op 0) (gate_lines l.t) (take l.first l.initial.bits) l.first (length l.initial.bits) l.bits l.i
+invariant-loop-i l = Filled (gate_value bit_op 0) (gate_lines l.circuit) (take l.first l.initial.bits) l.first (length l.initial.bits) l.bits l.i

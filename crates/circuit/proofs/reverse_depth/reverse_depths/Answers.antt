@@ -3,22 +3,31 @@ use mathlib.Core.Path.{ap}
 use Prim.Native.Nat.{◌+◌, ◌-◌}
 use Rattle.circuit.proofs.BackwardLaws.{raised-none, raised-more, raised-limit, raised_all}
 use borrow.Author.Rules.{rules}
+use Rattle.circuit.specs.Circuit.{gate_of}
 use Rattle.circuit.proofs.reverse_depth.reverse_depths.Goals as goal
 
 pub loop-i-init : goal.loop-i-init
-loop-i-init c = (search rules, raised-none c.args.t.now c.args.u.now _ c.mark_outputs.ensures)
+loop-i-init c = rw c.gates-i.ensures.value (search rules, raised-none c.args.circuit.now c.args.u.now _ c.mark_outputs.ensures)
 
 pub raise_operands-requires : goal.raise_operands-requires
 raise_operands-requires c = let l = c.loop-i in
-    let t = c.args.t.now in record { own_in_bounds = search rules; left_in_bounds = search rules; own_bound = raised-limit t _ l.u c.requires.well_formed l.i l.invariant.1 (c.first_gate-first.result + (l.i - 1)) (search rules) }
+    let t = c.args.circuit.now in
+    record {
+      own_in_bounds = search rules;
+      left_in_bounds = search rules;
+      own_bound = raised-limit t _ l.u c.first_gate-first.ensures.well_formed l.i l.invariant.1 (c.first_gate-first.result + (l.i - 1))
+          (search rules);
+    }
 
 pub loop-i-preserved : goal.loop-i-preserved
 loop-i-preserved c = let l = c.loop-i in
-    let g = c.gate_line in (
+    let g = c.gate in (
       search rules,
-      raised-more c.args.t.now _ l.u c.requires.well_formed l.i l.invariant.1 _ (l.i - 1) (search rules) (search rules) _ (ap (λ m. m + (l.i - 1)) c.first_gate-first.ensures) g.result g.ensures.value c.raise_operands.ensures,
+      raised-more c.args.circuit.now _ l.u c.first_gate-first.ensures.well_formed l.i l.invariant.1 _ (l.i - 1) (search rules)
+          (search rules) _ (ap (λ m. m + (l.i - 1)) c.first_gate-first.ensures.value) (gate_of g.result) g.ensures.value
+          c.raise_operands.ensures,
     )
 
 pub returns : goal.returns
 returns c = let l = c.loop-i in
-    raised_all c.args.t.now c.args.u.now _ c.mark_outputs.ensures l.u l.i l.invariant.1 (search rules)
+    raised_all c.args.circuit.now c.args.u.now _ c.mark_outputs.ensures l.u l.i l.invariant.1 (search rules)

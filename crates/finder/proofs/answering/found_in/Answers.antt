@@ -1,55 +1,37 @@
--- A verdict that applies, else the search at the place that the judge has found.
-use mathlib.Core.List.{[], ◌∷◌}
-use mathlib.Core.Path.{◌≡◌, sym, ap, ◌∙◌}
-use Prim.Native.Nat.{ℕ}
-use native.Mathlib.Omega.{arith}
-use Rattle.lines.specs.Refusal.{gives}
+-- A verdict that applies (`refused-values`, `failing-values`), else the search at the place that the judge has found (`passed-values`).
+use mathlib.Core.Path.{◌∙◌}
+use Rattle.std.proofs.lemmas.Result.{err_from_is_err_and}
 use Rattle.circuit.specs.Table.{decode}
-use Rattle.rules.specs.RuleTable.{rule_at}
-use Rattle.rules.specs.Verdict.{passes, judgement, early_verdict}
+use Rattle.rules.specs.Remembered.{said}
 use Rattle.rules.proofs.MatchLaws.{gate-below}
-use Rattle.rules.proofs.RefusalLaws.{rule-at-place}
-use Rattle.rules.proofs.JudgedLaws.{judged-small, judged-verdict, judged-place, early-limit, early-none}
-use Rattle.finder.specs.Search.{whole_search, first_match, within}
-use Rattle.finder.proofs.CallLaws.{in-verdict, in-found}
+use Rattle.rules.proofs.VerdictLaws.{early-gate}
+use Rattle.finder.specs.Search.{searched_of}
+use Rattle.finder.proofs.CallLaws.{refused-values, failing-values, passed-values}
 use Rattle.finder.proofs.answering.found_in.Goals as goal
 
-pub early_verdict-verdict-requires : goal.early_verdict-verdict-requires
-early_verdict-verdict-requires c = let j = c.judged_rule-judged in record { well_formed = c.requires.well_formed; judged_le_not_sound = judged-small c.args.t.now c.args.rule j.result j.ensures }
+pub returns-in_err-rule : goal.returns-in_err-rule
+returns-in_err-rule c = let a = c.args in
+    let p = err_from_is_err_and c.from_residual.result c.from_residual.ensures.1 in
+    rw (p.1, p.2) (refused-values (decode a.c.now) a.rules.now.table.now a.number a.gate a.limit c.in_err-rule.field-0.0 c.in_err-rule.ensures)
+
+pub returns-in_err-early_verdict : goal.returns-in_err-early_verdict
+returns-in_err-early_verdict c = let a = c.args in
+    let p = err_from_is_err_and c.from_residual-in_err-early_verdict.result c.from_residual-in_err-early_verdict.ensures.1 in
+    rw (p.1, p.2)
+    (failing-values (decode a.c.now) a.rules.now.table.now a.number a.gate a.limit (said c.in_ok-rule.rule) c.in_ok-rule.ensures
+    c.in_err-early_verdict.field-0.0 c.in_err-early_verdict.ensures.value)
 
 pub search_at-requires : goal.search_at-requires
-search_at-requires c =
-    let a = c.args in
-    let j = c.judged_rule-judged in
-    let early : c.early_verdict-verdict.result ≡ early_verdict (decode a.c.now) (judgement a.t.now a.rule) a.gate =
-    c.early_verdict-verdict.ensures ∙ ap (λ v. early_verdict (decode a.c.now) v a.gate) (judged-verdict a.t.now a.rule j.result j.ensures) in
-    let none : early_verdict (decode a.c.now) (judgement a.t.now a.rule) a.gate ≡ passes =
-    let small = early-limit (decode a.c.now) a.t.now a.rule a.gate in
-    omega (arith, small) in
-    let p = early-none (decode a.c.now) a.t.now a.rule a.gate none in
-    let w = rule-at-place a.t.now c.requires.well_formed_rules a.rule p.0 j.result.place (judged-place a.t.now a.rule j.result j.ensures p.0) in
-    record { well_formed = c.requires.well_formed; well_formed_rule = w; gate_bound = (gate-below a.c.now a.gate p.2, c.requires.limit_le_max_ways) }
+search_at-requires c = let a = c.args in (
+  (
+    gate-below a.c.now a.gate (early-gate (decode a.c.now) a.gate c.in_ok-early_verdict.ensures.value),
+    c.in_ok-early_verdict.ensures.limit,
+  ),
+  c.requires,
+)
 
-pub returns-in-1 : goal.returns-in-1
-returns-in-1 c =
-    let a = c.args in
-    let j = c.judged_rule-judged in
-    let early : c.early_verdict-verdict.result ≡ early_verdict (decode a.c.now) (judgement a.t.now a.rule) a.gate =
-    c.early_verdict-verdict.ensures ∙ ap (λ v. early_verdict (decode a.c.now) v a.gate) (judged-verdict a.t.now a.rule j.result j.ensures) in
-    ap gives
-    (ap (λ (v : ℕ). v ∷ 0 ∷ 0 ∷ []) early
-    ∙ sym (in-verdict (decode a.c.now) a.t.now a.rule a.gate a.limit (λ z. omega arith)))
-
-pub returns-in-0 : goal.returns-in-0
-returns-in-0 c =
-    let a = c.args in
-    let j = c.judged_rule-judged in
-    let early : c.early_verdict-verdict.result ≡ early_verdict (decode a.c.now) (judgement a.t.now a.rule) a.gate =
-    c.early_verdict-verdict.ensures ∙ ap (λ v. early_verdict (decode a.c.now) v a.gate) (judged-verdict a.t.now a.rule j.result j.ensures) in
-    let none : early_verdict (decode a.c.now) (judgement a.t.now a.rule) a.gate ≡ passes =
-    let small = early-limit (decode a.c.now) a.t.now a.rule a.gate in
-    omega (arith, small) in
-    let p = early-none (decode a.c.now) a.t.now a.rule a.gate none in
-    let s = c.search_at in
-    let e = s.ensures ∙ ap (λ (p : ℕ). within a.limit (first_match (whole_search (decode a.c.now) (rule_at a.t.now p) a.gate))) (judged-place a.t.now a.rule j.result j.ensures p.0) in
-    c.found_by.ensures ∙ ap gives (in-found (decode a.c.now) a.t.now a.rule a.gate a.limit s.result none e)
+pub returns : goal.returns
+returns c = let a = c.args in
+    c.found_by.ensures
+    ∙ (passed-values (decode a.c.now) a.rules.now.table.now a.number a.gate a.limit (said c.in_ok-rule.rule) c.in_ok-rule.ensures
+    c.in_ok-early_verdict.ensures.value (searched_of c.search_at.result) c.search_at.ensures)

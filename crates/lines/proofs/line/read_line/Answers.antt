@@ -1,28 +1,19 @@
--- By the definition of `read_line`: three stores, each of what `read_number` gives, which the line has numbers for (`line-numbers`).
-use native.Mathlib.Omega.{arith}
-use native.Mathlib.Numerals.{add-one}
-use lib.Seq.{drop-drop}
-use lib.ListN.{length-set}
-use Rattle.lists.proofs.Stores.{add-two}
+-- The line has three numbers (`line-numbers`); what they show is `read_line` by its definition.
+use Rattle.std.proofs.Common.{◌∙◌}
+use Rattle.std.proofs.lemmas.List.{take_rest}
 use Rattle.lines.specs.Line.{read_line}
 use Rattle.lines.proofs.LineLaws.{line-numbers}
 use Rattle.lines.proofs.line.read_line.Goals as goal
 
-pub read_number-requires : goal.read_number-requires
-read_number-requires c = let k = line-numbers c.args.text.now c.args.at c.requires.at_in_bounds c.requires.text_value in record { at_in_bounds = omega arith; text_value = cc }
+pub read_number-a-requires-clause-text_value : goal.read_number-a-requires-clause-text_value
+read_number-a-requires-clause-text_value c = let k = line-numbers c.args.line.now c.requires.in_bounds c.requires.text_value in cc
 
-pub read_number-requires-2 : goal.read_number-requires-2
-read_number-requires-2 c = let k = line-numbers c.args.text.now c.args.at c.requires.at_in_bounds c.requires.text_value in record { at_in_bounds = omega arith; text_value = cc }
+pub read_number-b-requires-clause-text_value : goal.read_number-b-requires-clause-text_value
+read_number-b-requires-clause-text_value c = let k = line-numbers c.args.line.now c.requires.in_bounds c.requires.text_value in simp take_rest (cc)
 
-pub bounds-table-to-2 : goal.bounds-table-to-2
-bounds-table-to-2 c = simp length-set (omega arith)
-
-pub read_number-requires-3 : goal.read_number-requires-3
-read_number-requires-3 c = let k = line-numbers c.args.text.now c.args.at c.requires.at_in_bounds c.requires.text_value in record { at_in_bounds = omega arith; text_value = cc }
-
-pub bounds-table-to-3 : goal.bounds-table-to-3
-bounds-table-to-3 c = simp length-set (omega arith)
+pub read_number-c-requires-clause-text_value : goal.read_number-c-requires-clause-text_value
+read_number-c-requires-clause-text_value c = let k = line-numbers c.args.line.now c.requires.in_bounds c.requires.text_value in simp take_rest (cc)
 
 pub returns : goal.returns
 unfolding read_line
-returns c = simp (add-one, add-two, drop-drop) (cc)
+returns c = c.copy_from_slice.ensures.after ∙ rw (c.read_number-a.ensures, c.read_number-b.ensures, c.read_number-c.ensures) (simp take_rest)

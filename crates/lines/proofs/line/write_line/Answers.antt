@@ -1,11 +1,10 @@
--- Law `line-stores-at`: three numbers and byte 10, stored one after the other, are the line.
-use native.Mathlib.Omega.{arith}
-use lib.ListN.{length-set}
-use Rattle.lines.proofs.LineLaws.{line-stores-at}
+-- Law `line-written`: three numbers and byte 10, stored one after the other, are the line.
+use Rattle.lines.specs.Line.{write_line}
+use Rattle.lines.specs.RecordLaws.{number-length}
+use Rattle.lines.proofs.LineLaws.{line-written}
 use Rattle.lines.proofs.line.write_line.Goals as goal
 
-pub shape_of-text : goal.shape_of-text
-shape_of-text c = simp length-set (omega arith)
-
 pub returns : goal.returns
-returns c = cc (line-stores-at c.args.text.now c.args.table.now c.args.to c.args.at)
+unfolding write_line
+returns c = rw (c.write_number.ensures, c.write_number-2.ensures, c.write_number-3.ensures)
+    (line-written c.args.line.now _ _ _ c.requires.line_length (number-length _) (number-length _) (number-length _))

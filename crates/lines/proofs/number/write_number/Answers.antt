@@ -1,25 +1,8 @@
--- Law `six-columns`: the writing of a number, column by column, is what the six stores put there.
-use native.Mathlib.Omega.{arith}
-use native.Mathlib.Numerals.{add-one}
-use lib.ListN.{length-set}
-use Rattle.lists.proofs.Stores.{add-two, add-three, add-four, add_five}
-use Rattle.lines.proofs.NumberLaws.{six-columns}
+-- Laws `six-stores` and `six-columns`: the writing of a number, column by column.
+use Rattle.std.proofs.Common.{sym, ◌∙◌}
+use Rattle.lines.proofs.NumberLaws.{six-columns, six-stores}
 use Rattle.lines.proofs.number.write_number.Goals as goal
 
-pub bounds-text-at-2 : goal.bounds-text-at-2
-bounds-text-at-2 c = simp length-set (omega arith)
-
-pub bounds-text-at-3 : goal.bounds-text-at-3
-bounds-text-at-3 c = simp length-set (omega arith)
-
-pub bounds-text-at-4 : goal.bounds-text-at-4
-bounds-text-at-4 c = simp length-set (omega arith)
-
-pub bounds-text-at-5 : goal.bounds-text-at-5
-bounds-text-at-5 c = simp length-set (omega arith)
-
-pub bounds-text-at-6 : goal.bounds-text-at-6
-bounds-text-at-6 c = simp length-set (omega arith)
-
 pub returns : goal.returns
-returns c = rw six-columns (simp (add-one, add-two, add-three, add-four, add_five) (cc))
+returns c = six-stores c.args.columns.now _ _ _ _ _ _ c.requires
+    ∙ rw (c.column.ensures, c.column-2.ensures, c.column-3.ensures, c.column-4.ensures, c.column-5.ensures) (sym (six-columns c.args.n))

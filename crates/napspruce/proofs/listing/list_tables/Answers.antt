@@ -4,40 +4,49 @@ use Prim.Native.Nat.{ℕ}
 use native.Mathlib.Omega.{arith}
 use lib.ListN.{length-replicate}
 use Rattle.lines.proofs.CallLaws.{whole_is}
+use Rattle.lines.proofs.CheckLaws.{handed_back}
 use Rattle.circuit.specs.Circuit.{max_table}
 use Rattle.rules.specs.SiteTable.{max_sites}
-use Rattle.rewriting.specs.RewriteCall.{paper_values as rewritten_values, outcome_of}
 use Rattle.napspruce.specs.ListingCall.{listing_numbers}
 use Rattle.napspruce.proofs.CallLaws.{rewrote, enough-room, listed-done, listed-refused}
 use Rattle.napspruce.proofs.listing.list_tables.Goals as goal
 
+pub returns-in_err-done : goal.returns-in_err-done
+returns-in_err-done c =
+    let a = c.args in
+    rw (handed_back _ _ c.from_residual.ensures)
+    (listed-refused a.circuit.now a.rules.now a.sites.now _ _ _ c.requires.circuit_value c.requires.rules_value c.requires.sites_value
+    (enough-room listing_numbers max_table max_sites (omega arith) (omega arith) (omega arith)) _ _
+    (ap (λ o. o.answer) (sym c.in_err-done.ensures)) a.listing.now)
+
 pub bounds-sites-0 : goal.bounds-sites-0
 bounds-sites-0 c = let w = whole_is 3 c.args.sites.now c.requires.sites_value in omega (arith, w.long, w.some)
 
-pub write_listing-requires : goal.write_listing-requires
-write_listing-requires c =
-    let a = c.args in
+pub slice_bounds-verdicts-end : goal.slice_bounds-verdicts-end
+slice_bounds-verdicts-end c =
     let r = c.rewrite in
-    let d = c.in-Done in
-    let w =
-    rewrote a.circuit.now a.rules.now a.sites.now _ _ _ r.new.res r.new.work r.new.verdicts d.lines d.old_depth d.old_critical d.new_depth d.new_critical d.kept
-    (ap (λ x. outcome_of (rewritten_values x) r.new.res r.new.work r.new.verdicts) (sym d.is) ∙ r.ensures) in
-    record { sites_in_bounds = omega (arith, w.line-limit, w.site-limit, r.auto.res, length-replicate {A = ℕ} listing_numbers 0); sites_in_bounds_2 = omega (arith, w.site-limit, r.auto.verdicts, length-replicate {A = ℕ} max_sites 0); sites_le_max_sites = w.site-limit; sites_in_bounds_3 = omega (arith, w.line-limit, w.site-limit, c.requires.max_listing_in_bounds) }
+    let w = rewrote _ _ _ _ _ _ _ r.new.work _ _ (r.auto.verdicts ∙ length-replicate {A = ℕ} max_sites 0) c.in_ok-done.ensures in
+    w.there
 
-pub returns-in-Done : goal.returns-in-Done
-returns-in-Done c =
-    let a = c.args in
+pub slice_bounds-verdicts-end-2 : goal.slice_bounds-verdicts-end-2
+slice_bounds-verdicts-end-2 c =
     let r = c.rewrite in
-    let d = c.in-Done in
-    let w =
-    rewrote a.circuit.now a.rules.now a.sites.now _ _ _ r.new.res r.new.work r.new.verdicts d.lines d.old_depth d.old_critical d.new_depth d.new_critical d.kept
-    (ap (λ x. outcome_of (rewritten_values x) r.new.res r.new.work r.new.verdicts) (sym d.is) ∙ r.ensures) in
-    let l = c.write_listing in
-    listed-done a.circuit.now a.rules.now a.sites.now a.listing.now _ _ _ _ w _ _ l.ensures.value l.ensures.listing_after
+    let w = rewrote _ _ _ _ _ _ _ r.new.work _ _ (r.auto.verdicts ∙ length-replicate {A = ℕ} max_sites 0) c.in_ok-done.ensures in
+    sym w.each
 
-pub returns-in-Refused : goal.returns-in-Refused
-returns-in-Refused c = let a = c.args in
+pub write_listing-length-requires : goal.write_listing-length-requires
+write_listing-length-requires c =
     let r = c.rewrite in
-    listed-refused a.circuit.now a.rules.now a.sites.now _ _ _ c.requires.circuit_value c.requires.rules_value c.requires.sites_value
-    (enough-room listing_numbers max_table max_sites (omega arith) (omega arith) (omega arith)) _ _
-    (ap (λ o. o.answer) (sym r.ensures) ∙ ap rewritten_values c.in-Refused.is) a.listing.now
+    let w = rewrote _ _ _ _ _ _ _ r.new.work _ _ (r.auto.verdicts ∙ length-replicate {A = ℕ} max_sites 0) c.in_ok-done.ensures in
+    record {
+      verdicts_in_bounds = omega (arith, w.line-limit, w.site-limit, w.each, r.auto.res, length-replicate {A = ℕ} listing_numbers 0);
+      verdicts_le_max_sites = omega (arith, w.site-limit, w.each);
+      listing_in_bounds = omega (arith, w.line-limit, w.site-limit, w.each, c.requires.max_listing_in_bounds);
+    }
+
+pub returns : goal.returns
+returns c =
+    let r = c.rewrite in
+    let w = rewrote _ _ _ _ _ _ _ r.new.work _ _ (r.auto.verdicts ∙ length-replicate {A = ℕ} max_sites 0) c.in_ok-done.ensures in
+    let l = c.write_listing-length in
+    listed-done _ _ _ _ _ _ _ _ w _ _ l.ensures.value l.ensures.listing_after

@@ -3,4 +3,8 @@ use Rattle.napspruce.proofs.WriteLaws.{refusal-length, refusal-written}
 use Rattle.napspruce.proofs.printing.write_refusal.Goals as goal
 
 pub returns : goal.returns
-returns c = let r = c.args.refusal in record { value = refusal-length r.number r.table; out_after = refusal-written r.number r.table c.args.out.now _ c.write_lines.ensures }
+returns c =
+    record {
+      value = refusal-length _ _;
+      out_after = refusal-written _ _ c.args.out.now _ (rw (← c.number.ensures, ← c.table_number.ensures) c.write_lines.ensures);
+    }

@@ -1,5 +1,7 @@
 -- Line by line, by laws `starts-..`: what is left of the run lies behind the lines that were counted.
-use mathlib.Core.Path.{sym, ◌∙◌}
+use mathlib.Core.Path.{◌≡◌, sym, ap, ◌∙◌}
+use Prim.Native.Nat.{◌-◌, ◌/◌}
+use lib.ListN.{length}
 use native.Mathlib.Omega.{arith}
 use Rattle.napspruce.proofs.TextLaws.{starts_none, line-there, starts_more, starts-stop, starts-end}
 use Rattle.napspruce.proofs.texts.text_starts.Goals as goal
@@ -24,4 +26,6 @@ loop-i-preserved c = let l = c.loop-i in
     starts_more c.args.text.now c.requires l.i l.invariant c.loop-i-test.true (sym c.read_number.ensures ∙ c.if-read_number-ne-START.false)
 
 pub returns : goal.returns
-returns c = starts-end c.args.text.now c.requires c.loop-i.i c.loop-i.invariant c.loop-i-test.false
+returns c = let l = c.loop-i in
+    let end : l.i ≡ length c.args.text.now / 19 = omega (arith, l.invariant.1, c.loop-i-test.false) in
+    ap (λ i. i - 1) (sym end) ∙ starts-end c.args.text.now c.requires l.i l.invariant c.loop-i-test.false

@@ -1,98 +1,84 @@
--- Five parts make the table: laws `replace-stores`, `replace-room` and `replace-end`; what was read of the right side is within its limits.
-use mathlib.Core.Path.{◌≡◌, ◌∙◌}
-use mathlib.Core.Bool.{true}
+-- The three slices are the parts of the replaced circuit (`Parts`), from which each place and limit follows. Five stores make the table: laws
+-- `replace-stores` and `replace-end`.
+use mathlib.Core.Path.{ap, ◌∙◌}
+use Prim.Native.Nat.{◌+◌, ◌*◌, ◌-◌}
 use native.Mathlib.Omega.{arith}
-use lib.ListN.{drop}
-use Rattle.circuit.specs.Table.{lines_of}
-use Rattle.circuit.specs.Each.{all_gates}
-use Rattle.circuit.specs.Refusal.{operands_below}
-use Rattle.rules.proofs.RefusalLaws.{closing-below}
-use Rattle.rewriting.specs.Replacement.{AllBound}
-use Rattle.rewriting.proofs.LineLaws.{Fits, replace-fits, right-ordered, replace-stores, replace-room, replace-end}
+use lib.ListN.{length, take, drop}
+use Rattle.rules.specs.Remembered.{said}
+use Rattle.rewriting.specs.Replacement.{rows_of}
+use Rattle.rewriting.proofs.LineLaws.{Parts, parts-read, replace-stores, replace-end}
 use Rattle.rewriting.proofs.replacing.replace.Goals as goal
+use Rattle.rewriting.proofs.replacing.replace.Goals.{After-base}
 
-pub instance_of-requires : goal.instance_of-requires
-instance_of-requires c =
-    let fits : Fits c.args.c.now c.args.gate c.right_side-side.result.base c.right_side-side.result.count = let q = c.right_side-side.ensures in
-    replace-fits c.args.c.now c.requires.well_formed c.args.gate c.requires.gate_value c.args.t.now c.args.p c.requires.p_value _ _ q.base_value q.count_value c.requires.well_formed_rule in
-    let bound : AllBound c.right_side-side.result.base c.args.b.now = λ r h. (c.requires.bound_below r (omega (arith, h, c.right_side-side.ensures.base_value))).0 in
-    let f = fits in record { base_bound = (f.base-limit, omega (arith, f, closing-below c.args.t.now c.args.p c.requires.well_formed_rule, c.right_side-side.ensures)); gate_lt_max_references = omega (arith, f); all_bound = bound }
+-- the parts, which are known as soon as all has been read
+parts : (c : After-base) → Parts c.args.c.now (said c.args.rule.now) c.args.gate c.base.result c.rights-count.result c.gates_from-lines.result
+    (rows_of (take (c.gates_from-lines.result + 3 * (c.args.gate - c.first_gate-first.result) - c.gates_from-lines.result)
+    (drop c.gates_from-lines.result c.table-table.result.now)))
+    (rows_of (take (c.right_from-from.result + 3 * c.rights-count.result - c.right_from-from.result)
+    (drop c.right_from-from.result c.args.rule.now.table.now)))
+    (rows_of (take (c.gates_from-lines.result + 3 * c.gates-gates.result
+    - (c.gates_from-lines.result + 3 * (c.args.gate - c.first_gate-first.result) + 3))
+    (drop (c.gates_from-lines.result + 3 * (c.args.gate - c.first_gate-first.result) + 3) c.table-table.result.now)))
+parts c =
+    parts-read _ c.table-table.ensures.well_formed _ c.requires.gate_value _ _ c.args.rule.now.well_formed c.requires.within_size
+    _ _ _ _ _ _ _ c.table-table.ensures.value c.gates_from-lines.ensures c.gates-gates.ensures.value c.first_gate-first.ensures.value
+    c.right_from-from.ensures c.rights-count.ensures c.base.ensures
+
+pub invariant_of-rights : goal.invariant_of-rights
+invariant_of-rights c =
+    let k = parts c in
+    record { base_limit = k.base-limit; gate_limit = omega arith; all_bound = λ r h. (c.requires.bound_below r (omega (arith, h))).0 }
+
+pub rename-requires : goal.rename-requires
+rename-requires c = let k = parts (goal.at.rename-requires c).After-base in omega arith
+
+pub slice_bounds-before-end : goal.slice_bounds-before-end
+slice_bounds-before-end c = let k = parts (goal.at.slice_bounds-before-end c).After-base in omega (arith, ap length c.table-table.ensures.value)
+
+pub slice_bounds-behind-count : goal.slice_bounds-behind-count
+slice_bounds-behind-count c = let k = parts (goal.at.slice_bounds-behind-count c).After-base in omega arith
+
+pub slice_bounds-behind-start : goal.slice_bounds-behind-start
+slice_bounds-behind-start c = let k = parts (goal.at.slice_bounds-behind-start c).After-base in omega arith
 
 pub overflow_sub-gates : goal.overflow_sub-gates
-overflow_sub-gates c =
-    let fits : Fits c.args.c.now c.args.gate c.right_side-side.result.base c.right_side-side.result.count = let q = c.right_side-side.ensures in
-    replace-fits c.args.c.now c.requires.well_formed c.args.gate c.requires.gate_value c.args.t.now c.args.p c.requires.p_value _ _ q.base_value q.count_value c.requires.well_formed_rule in
-    omega (arith, fits)
+overflow_sub-gates c = let k = parts (goal.at.overflow_sub-gates c).After-base in omega arith
 
 pub write_front-requires : goal.write_front-requires
-write_front-requires c =
-    let fits : Fits c.args.c.now c.args.gate c.right_side-side.result.base c.right_side-side.result.count = let q = c.right_side-side.ensures in
-    replace-fits c.args.c.now c.requires.well_formed c.args.gate c.requires.gate_value c.args.t.now c.args.p c.requires.p_value _ _ q.base_value q.count_value c.requires.well_formed_rule in
-    let from = c.gates_from-lines.ensures in record { well_formed = c.requires.well_formed; lines_value = from; lines_in_bounds = omega (arith, from, fits, c.requires.max_table_in_bounds) }
+write_front-requires c = let k = parts (goal.at.write_front-requires c).After-base in omega arith
 
-pub overflow_sub-before : goal.overflow_sub-before
-overflow_sub-before c =
-    let fits : Fits c.args.c.now c.args.gate c.right_side-side.result.base c.right_side-side.result.count = let q = c.right_side-side.ensures in
-    replace-fits c.args.c.now c.requires.well_formed c.args.gate c.requires.gate_value c.args.t.now c.args.p c.requires.p_value _ _ q.base_value q.count_value c.requires.well_formed_rule in
-    omega (arith, fits)
+pub write_gates-end-requires-clause-operands : goal.write_gates-end-requires-clause-operands
+write_gates-end-requires-clause-operands c = (parts (goal.at.write_gates-end-requires-clause-operands c).After-base).before-below
 
-pub write_gates-rights_at-requires : goal.write_gates-rights_at-requires
-write_gates-rights_at-requires c =
-    let fits : Fits c.args.c.now c.args.gate c.right_side-side.result.base c.right_side-side.result.count = let q = c.right_side-side.ensures in
-    replace-fits c.args.c.now c.requires.well_formed c.args.gate c.requires.gate_value c.args.t.now c.args.p c.requires.p_value _ _ q.base_value q.count_value c.requires.well_formed_rule in
-    let f = fits in
-    let p = c.requires in
-    let from = c.gates_from-lines.ensures in record { well_formed = p.well_formed; lines_value = from; from_le_to = (omega (arith, f), omega (arith, f)); count_le_max_rights = f.count-limit; from_in_bounds = omega (arith, f, from, p.max_table_in_bounds, c.write_front.auto.out) }
+pub write_gates-end-requires-clause-room : goal.write_gates-end-requires-clause-room
+write_gates-end-requires-clause-room c = let k = parts (goal.at.write_gates-end-requires-clause-room c).After-base in omega arith
 
-pub write_rights-behind_at-requires : goal.write_rights-behind_at-requires
-write_rights-behind_at-requires c =
-    let fits : Fits c.args.c.now c.args.gate c.right_side-side.result.base c.right_side-side.result.count = let q = c.right_side-side.ensures in
-    replace-fits c.args.c.now c.requires.well_formed c.args.gate c.requires.gate_value c.args.t.now c.args.p c.requires.p_value _ _ q.base_value q.count_value c.requires.well_formed_rule in
-    let ordered : all_gates operands_below c.right_side-side.result.base (lines_of c.right_side-side.result.count (drop c.right_side-side.result.from c.args.t.now)) ≡ true = let q = c.right_side-side.ensures in
-    right-ordered c.args.c.now c.requires.well_formed c.args.gate c.requires.gate_value c.args.t.now c.args.p c.requires.p_value _ _ q.base_value q.count_value c.requires.well_formed_rule _ q.from_value in
-    let bound : AllBound c.right_side-side.result.base c.args.b.now = λ r h. (c.requires.bound_below r (omega (arith, h, c.right_side-side.ensures.base_value))).0 in
-    let p = c.requires in
-    let f = fits in
-    let w = c.write_gates-rights_at in record { base_bound = (f.base-limit, f.count-limit); count_in_bounds = omega (arith, c.right_side-side.ensures, p.well_formed_rule.sized); t_value = ordered; gate_lt_max_references = omega (arith, f); all_bound = bound; count_in_bounds_2 = omega (arith, f, p.max_table_in_bounds, c.write_front.auto.out, c.gates_from-lines.ensures, w.ensures.value, w.auto.out) }
+pub write_gates-end-requires-2-clause-operands : goal.write_gates-end-requires-2-clause-operands
+write_gates-end-requires-2-clause-operands c = (parts (goal.at.write_gates-end-requires-2-clause-operands c).After-base).right-below
 
-pub overflow_cast-gates : goal.overflow_cast-gates
-overflow_cast-gates c =
-    let fits : Fits c.args.c.now c.args.gate c.right_side-side.result.base c.right_side-side.result.count = let q = c.right_side-side.ensures in
-    replace-fits c.args.c.now c.requires.well_formed c.args.gate c.requires.gate_value c.args.t.now c.args.p c.requires.p_value _ _ q.base_value q.count_value c.requires.well_formed_rule in
-    omega (arith, fits)
+pub write_gates-end-requires-2-clause-room : goal.write_gates-end-requires-2-clause-room
+write_gates-end-requires-2-clause-room c = let k = parts (goal.at.write_gates-end-requires-2-clause-room c).After-base in omega arith
 
-pub write_gates-closings_at-requires : goal.write_gates-closings_at-requires
-write_gates-closings_at-requires c =
-    let fits : Fits c.args.c.now c.args.gate c.right_side-side.result.base c.right_side-side.result.count = let q = c.right_side-side.ensures in
-    replace-fits c.args.c.now c.requires.well_formed c.args.gate c.requires.gate_value c.args.t.now c.args.p c.requires.p_value _ _ q.base_value q.count_value c.requires.well_formed_rule in
-    let f = fits in
-    let p = c.requires in
-    let from = c.gates_from-lines.ensures in
-    let w = c.write_gates-rights_at in
-    let r = c.write_rights-behind_at in record { well_formed = p.well_formed; lines_value = from; from_le_to = (omega (arith, f), omega (arith, f)); count_le_max_rights = f.count-limit; from_in_bounds = omega (arith, f, p.max_table_in_bounds, c.write_front.auto.out, from, w.ensures.value, w.auto.out, r.ensures.value, r.auto.out) }
+pub write_gates-end-requires-3-clause-operands : goal.write_gates-end-requires-3-clause-operands
+write_gates-end-requires-3-clause-operands c = (parts (goal.at.write_gates-end-requires-3-clause-operands c).After-base).behind-below
+
+pub write_gates-end-requires-3-clause-room : goal.write_gates-end-requires-3-clause-room
+write_gates-end-requires-3-clause-room c = let k = parts (goal.at.write_gates-end-requires-3-clause-room c).After-base in omega arith
 
 pub write_closings-requires : goal.write_closings-requires
-write_closings-requires c =
-    let fits : Fits c.args.c.now c.args.gate c.right_side-side.result.base c.right_side-side.result.count = let q = c.right_side-side.ensures in
-    replace-fits c.args.c.now c.requires.well_formed c.args.gate c.requires.gate_value c.args.t.now c.args.p c.requires.p_value _ _ q.base_value q.count_value c.requires.well_formed_rule in
-    let f = fits in
-    let p = c.requires in
-    let w = c.write_gates-rights_at in
-    let r = c.write_rights-behind_at in
-    let b = c.write_gates-closings_at in record { well_formed = p.well_formed; count_le_max_rights = f.count-limit; c_in_bounds = omega (arith, f, p.max_table_in_bounds, c.write_front.auto.out, c.gates_from-lines.ensures, w.ensures.value, w.auto.out, r.ensures.value, r.auto.out, b.ensures.value, b.auto.out) }
+write_closings-requires c = let k = parts (goal.at.write_closings-requires c).After-base in omega arith
 
 pub returns : goal.returns
-returns c = let a = c.args in
-    let q = c.right_side-side.ensures in
-    let from = c.gates_from-lines.ensures in
-    let w = c.write_gates-rights_at.ensures in
-    let r = c.write_rights-behind_at.ensures in
-    let b = c.write_gates-closings_at.ensures in
-    let closed = c.write_closings.ensures in
-    let room = replace-room a.c.now c.requires.well_formed a.gate c.requires.gate_value a.t.now a.p c.requires.p_value _ _ q.base_value q.count_value a.b.now in record {
-      out_after = replace-stores a.c.now c.requires.well_formed a.gate c.requires.gate_value a.t.now a.p c.requires.p_value _ _ q.base_value q.count_value a.b.now _ _ _ q.from_value q.closing_value
-          c.instance_of.ensures a.out.now _ _ _ _ _ _ _ _ _ c.write_front.ensures from w.out_after w.value r.out_after r.value b.out_after b.value closed.out_after
-          (omega (arith, c.requires.max_table_in_bounds, room));
-      value = closed.value ∙ replace-end a.c.now c.requires.well_formed a.gate c.requires.gate_value a.t.now a.p c.requires.p_value _ _ q.base_value q.count_value a.b.now _ _ _ _
-          from w.value r.value b.value;
+returns c =
+    let k = parts (goal.at.returns c).After-base in
+    let well = c.table-table.ensures.well_formed in
+    let e1 = c.write_gates-end.ensures in
+    let e2 = c.write_gates-end-2.ensures in
+    let e3 = c.write_gates-end-3.ensures in
+    let e4 = c.write_closings.ensures in
+    record {
+      out_after = replace-stores _ well _ _ c.requires.gate_value _ _ _ _ _ _ k c.args.b.now _ _ _ c.gates-gates.ensures.value c.closing.ensures
+          c.rename.ensures _ _ _ _ _ _ _ _ _ c.requires.max_table_in_bounds c.write_front.ensures e1.out_after e1.value e2.out_after e2.value
+          e3.out_after e3.value e4.out_after;
+      value = e4.value ∙ replace-end _ well _ _ c.requires.gate_value _ _ _ _ _ _ k c.args.b.now _ _ _ e1.value e2.value e3.value;
     }

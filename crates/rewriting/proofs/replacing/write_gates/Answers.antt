@@ -1,32 +1,42 @@
--- Laws of `LinesTo`: the lines of the first i gates are there.
-use mathlib.Core.Path.{refl, ap, ◌∙◌}
-use native.Mathlib.Omega.{arith}
-use lib.Seq.{slice}
-use Rattle.circuit.specs.Circuit.{Gate}
-use Rattle.circuit.specs.Table.{gate_lines}
-use Rattle.circuit.specs.Trim.{rename_gate}
-use Rattle.rewriting.specs.Replacement.{renumber}
-use Rattle.rewriting.proofs.LineLaws.{lines_none, lines_more, lines-all, part_length, part_step}
+-- What is left begins with the next row, which is renamed and stored: laws `chunk-turn` and `chunk-all`.
+use mathlib.Core.Path.{◌∙◌}
 use borrow.Author.Rules.{rules}
+use Rattle.std.specs.Slice.Iter.{chunks_exact_rest}
+use Rattle.rewriting.proofs.LineLaws.{Turn, chunk-turn, chunk-all}
+use Rattle.rewriting.proofs.replacing.write_gates.Given.{Over}
 use Rattle.rewriting.proofs.replacing.write_gates.Goals as goal
+use Rattle.rewriting.proofs.replacing.write_gates.Goals.{In-Some}
 
-pub loop-i-init : goal.loop-i-init
-loop-i-init c = let a = c.args in
-    (search rules, refl, lines_none (rename_gate (renumber a.s.gate a.s.closing a.s.count)) (slice a.from a.to (gate_lines a.c.now)) a.out.now a.at)
+turn : (g : Over) (c : In-Some g) → Turn (g.R.Renaming.limit c.args.renaming.now) (g.R.Renaming.image c.args.renaming.now)
+    c.args.rows.now c.args.out.now c.args.at c.in-Some.row.now (chunks_exact_rest c.next.new.self) c.loop-row.out c.loop-row.end
+turn g c =
+    let step = c.in-Some.ensures.steps in
+    let l = c.loop-row.invariant in
+    chunk-turn _ _ _ step.1.0 (step.1.1 ∙ l.by-threes) _ _ _ _ _ _ _ l.below l.stored c.requires.room
 
-pub loop-i-preserved : goal.loop-i-preserved
-loop-i-preserved c = let l = c.loop-i in
-    let a = c.args in
-    let g = c.gate_line-g.ensures.value in
-    let ρ = renumber a.s.gate a.s.closing a.s.count in (
-      search rules,
-      l.invariant.1,
-      lines_more _ _ _ _ l.out l.i l.invariant.2 _
-          (part_step a.c.now a.from a.to c.requires.from_le_to.1 l.i (omega (arith, l.invariant.1, c.loop-i-test.true)))
-          _ _ _ (ap (λ (x : Gate). x.kind) g) (c.renumber-left.ensures ∙ ap (λ (x : Gate). ρ x.left) g) (c.renumber-right.ensures ∙ ap (λ (x : Gate). ρ x.right) g)
-          _ c.write_row.ensures,
-    )
+pub rename-left-requires : goal.rename-left-requires
+rename-left-requires g c = (turn g (goal.at.rename-left-requires g c).In-Some).left-below
+
+pub rename-right-requires : goal.rename-right-requires
+rename-right-requires g c = (turn g (goal.at.rename-right-requires g c).In-Some).right-below
+
+pub write_row-requires : goal.write_row-requires
+write_row-requires g c = (turn g (goal.at.write_row-requires g c).In-Some).room
+
+pub overflow_add-end : goal.overflow_add-end
+overflow_add-end g c = let t = turn g (goal.at.overflow_add-end g c).In-Some in search rules
+
+pub loop-row-preserved : goal.loop-row-preserved
+loop-row-preserved g c =
+    let t = turn g (goal.at.loop-row-preserved g c).In-Some in
+    record {
+      by-threes = c.in-Some.ensures.steps.0 ∙ c.loop-row.invariant.by-threes;
+      below = t.rest-below;
+      stored = t.stored _ _ c.rename-left.ensures c.rename-right.ensures _ c.write_row.ensures;
+    }
 
 pub returns : goal.returns
-returns c = let l = c.loop-i in
-    let a = c.args in record { out_after = lines-all _ _ _ _ l.out l.i l.invariant.2 (omega (arith, part_length a.c.now a.from a.to c.requires.from_le_to.1, c.loop-i-test.false, l.invariant.1)); value = refl }
+returns g c =
+    let l = c.loop-row.invariant in
+    let all = chunk-all _ _ _ _ _ _ _ l.stored (rw l.by-threes at c.in-None.ensures.steps.1.0) in
+    record { out_after = all.0; value = all.1 }

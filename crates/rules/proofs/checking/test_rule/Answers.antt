@@ -17,4 +17,10 @@ returns c = let t = c.args.t.now in
     let g = c.test_closing-closed.ensures in
     let l = c.left_from.ensures in
     let q = c.right_from.ensures in
-    let k = c.closing_from.ensures in record { kinds_value = kinds-tested t p _ _ _ l q k a.kinds x.kinds y.kinds z.kinds _ e.kinds_value f.kinds_value g.kinds_value; references_value = references-tested t p _ _ _ l q k a.references x.references y.references z.references e.references_value f.references_value g.references_value; uses_value = ap (λ b. a.uses && b) (uses-tested t p c.requires _ l x.used _ e.marks_uses c.owed-asked.ensures) }
+    let k = c.closing_from.ensures in
+    record {
+      kinds_value = kinds-tested t p _ _ _ l q k a.kinds x.kinds y.kinds z.kinds _ e.kinds_value f.kinds_value g.kinds_value;
+      references_value = references-tested t p _ _ _ l q k a.references x.references y.references z.references e.references_value
+          f.references_value g.references_value;
+      uses_value = ap (λ b. a.uses && b) (uses-tested t p c.requires _ l x.used _ e.marks_uses c.owed-asked.ensures);
+    }

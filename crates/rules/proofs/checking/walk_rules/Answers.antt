@@ -1,10 +1,8 @@
 -- The loop's invariant is what the walk finds from where it stands, `tested_from`; each way out is a case of it.
-use mathlib.Core.List.{List}
 use mathlib.Core.Bool.{true}
 use mathlib.Core.Path.{◌≡◌, sym, ap, ◌∙◌}
-use Prim.Native.Nat.{ℕ, ◌<◌}
+use Prim.Native.Nat.{◌+◌, ◌-◌}
 use native.Mathlib.Omega.{arith}
-use Rattle.rules.specs.RuleRefusal.{rule_in_limits, walk, rules_refusal}
 use Rattle.rules.specs.RuleTable.{rule_count}
 use Rattle.rules.proofs.RefusalLaws.{whole-lines, rules-walk, tested_from, tested-top, tested-found, tested-more, tested-end}
 use Rattle.rules.proofs.WalkLaws.{limited-of, sized_of, walk-short, walk-limits, walk-long, walk-over, walk-head}
@@ -20,63 +18,85 @@ returns-then-not-rules_head_in_limits c = let e = walk-head _ (sym c.rules_head_
 pub bounds-t-0 : goal.bounds-t-0
 bounds-t-0 c = omega (arith, whole-lines _ c.requires)
 
-pub loop-remaining-init : goal.loop-remaining-init
-loop-remaining-init c = let t = c.args.t.now in
+pub loop-init : goal.loop-init
+loop-init c =
+    let t = c.args.t.now in
     let w = c.requires in
-    (omega (arith, whole-lines t w), ap (λ p. tested_from t (rule_count t) p true true true) c.rules_from-p.ensures ∙ tested-top t w (sym c.rules_head_in_limits.ensures ∙ c.if-not-rules_head_in_limits.false))
+    let all : rule_count t - 0 ≡ rule_count t = omega arith in (
+      omega (arith, whole-lines t w),
+      ap (λ n. tested_from t n 3 true true true) all
+          ∙ tested-top t w (sym c.rules_head_in_limits.ensures ∙ c.if-not-rules_head_in_limits.false),
+    )
 
 pub returns-then-t-p-lt3 : goal.returns-then-t-p-lt3
 returns-then-t-p-lt3 c =
-    let table : List ℕ = c.args.t.now in
-    let found : (x : ℕ) → 0 < x → walk table c.loop-remaining.remaining c.loop-remaining.p ≡ x → x ≡ rules_refusal table = λ x h e. let s = c.loop-remaining.tested in
-    tested-found table c.loop-remaining.remaining c.loop-remaining.p s.kinds s.references s.uses x h e ∙ c.loop-remaining.invariant.1 in
-    found 5 (omega arith) (walk-short table c.loop-remaining.remaining c.loop-remaining.p c.loop-remaining-test.true (omega arith))
+    let t = c.args.t.now in
+    let l = c.loop in
+    let n = rule_count t - l.counter in
+    tested-found t n l.p l.tested.kinds l.tested.references l.tested.uses 5 (omega arith)
+    (walk-short t n l.p (omega (arith, c.loop-test.true)) (omega arith))
+    ∙ l.invariant.1
 
 pub returns-then-not-rule_in_limits : goal.returns-then-not-rule_in_limits
 returns-then-not-rule_in_limits c =
-    let table : List ℕ = c.args.t.now in
-    let found : (x : ℕ) → 0 < x → walk table c.loop-remaining.remaining c.loop-remaining.p ≡ x → x ≡ rules_refusal table = λ x h e. let s = c.loop-remaining.tested in
-    tested-found table c.loop-remaining.remaining c.loop-remaining.p s.kinds s.references s.uses x h e ∙ c.loop-remaining.invariant.1 in
-    found 4 (omega arith) (walk-limits table c.loop-remaining.remaining c.loop-remaining.p c.loop-remaining-test.true (omega arith) (sym c.rule_in_limits.ensures ∙ c.if-not-rule_in_limits.true))
+    let t = c.args.t.now in
+    let l = c.loop in
+    let n = rule_count t - l.counter in
+    let outside = sym c.rule_in_limits.ensures ∙ c.if-not-rule_in_limits.true in
+    tested-found t n l.p l.tested.kinds l.tested.references l.tested.uses 4 (omega arith)
+    (walk-limits t n l.p (omega (arith, c.loop-test.true)) (omega arith) outside)
+    ∙ l.invariant.1
 
 pub next_rule-next-requires : goal.next_rule-next-requires
 next_rule-next-requires c =
-    let table : List ℕ = c.args.t.now in
-    let within : rule_in_limits table c.loop-remaining.p ≡ true = sym c.rule_in_limits.ensures ∙ c.if-not-rule_in_limits.false in
-    let k = limited-of table c.loop-remaining.p within in record { p_in_bounds = omega arith; p_bound = (k.lefts-limit, k.rights-limit) }
+    let within = sym c.rule_in_limits.ensures ∙ c.if-not-rule_in_limits.false in
+    let k = limited-of c.args.t.now c.loop.p within in
+    record { p_in_bounds = omega arith; p_bound = (k.lefts-limit, k.rights-limit) }
 
 pub returns-then-t-next : goal.returns-then-t-next
 returns-then-t-next c =
-    let table : List ℕ = c.args.t.now in
-    let found : (x : ℕ) → 0 < x → walk table c.loop-remaining.remaining c.loop-remaining.p ≡ x → x ≡ rules_refusal table = λ x h e. let s = c.loop-remaining.tested in
-    tested-found table c.loop-remaining.remaining c.loop-remaining.p s.kinds s.references s.uses x h e ∙ c.loop-remaining.invariant.1 in
-    let within : rule_in_limits table c.loop-remaining.p ≡ true = sym c.rule_in_limits.ensures ∙ c.if-not-rule_in_limits.false in
-    found 5 (omega arith) (walk-long table c.loop-remaining.remaining c.loop-remaining.p c.loop-remaining-test.true (omega arith) within (omega (arith, c.next_rule-next.ensures)))
+    let t = c.args.t.now in
+    let l = c.loop in
+    let n = rule_count t - l.counter in
+    let within = sym c.rule_in_limits.ensures ∙ c.if-not-rule_in_limits.false in
+    let long = walk-long t n l.p (omega (arith, c.loop-test.true)) (omega arith) within (omega (arith, c.next_rule-next.ensures)) in
+    tested-found t n l.p l.tested.kinds l.tested.references l.tested.uses 5 (omega arith) long ∙ l.invariant.1
 
 pub test_rule-tested-requires : goal.test_rule-tested-requires
 test_rule-tested-requires c =
-    let table : List ℕ = c.args.t.now in
-    let within : rule_in_limits table c.loop-remaining.p ≡ true = sym c.rule_in_limits.ensures ∙ c.if-not-rule_in_limits.false in
-    sized_of table c.loop-remaining.p within (omega (arith, c.next_rule-next.ensures))
+    let within = sym c.rule_in_limits.ensures ∙ c.if-not-rule_in_limits.false in
+    sized_of c.args.t.now c.loop.p within (omega (arith, c.next_rule-next.ensures))
 
-pub loop-remaining-preserved : goal.loop-remaining-preserved
-loop-remaining-preserved c =
-    let table : List ℕ = c.args.t.now in
-    let within : rule_in_limits table c.loop-remaining.p ≡ true = sym c.rule_in_limits.ensures ∙ c.if-not-rule_in_limits.false in
-    let s = c.loop-remaining.tested in
-    let e = c.next_rule-next.ensures in
+pub loop-preserved : goal.loop-preserved
+loop-preserved c =
+    let t = c.args.t.now in
+    let l = c.loop in
+    let n = rule_count t - l.counter in
+    let within = sym c.rule_in_limits.ensures ∙ c.if-not-rule_in_limits.false in
+    let next = c.next_rule-next in
+    let u = c.test_rule-tested.result in
     let r = c.test_rule-tested.ensures in
-    (omega arith, tested-more table c.loop-remaining.remaining c.loop-remaining.p s.kinds s.references s.uses c.loop-remaining-test.true within (omega (arith, e)) _ e _ _ _ r.kinds_value r.references_value r.uses_value ∙ c.loop-remaining.invariant.1)
+    let fewer : rule_count t - (l.counter + 1) ≡ n - 1 = omega arith in (
+      omega arith,
+      ap (λ k. tested_from t k next.result u.kinds u.references u.uses) fewer
+          ∙ tested-more t n l.p l.tested.kinds l.tested.references l.tested.uses (omega (arith, c.loop-test.true)) within
+          (omega (arith, next.ensures)) _ next.ensures _ _ _ r.kinds_value r.references_value r.uses_value
+          ∙ l.invariant.1,
+    )
 
 pub returns-then-p-t : goal.returns-then-p-t
 returns-then-p-t c =
-    let table : List ℕ = c.args.t.now in
-    let found : (x : ℕ) → 0 < x → walk table c.loop-remaining.remaining c.loop-remaining.p ≡ x → x ≡ rules_refusal table = λ x h e. let s = c.loop-remaining.tested in
-    tested-found table c.loop-remaining.remaining c.loop-remaining.p s.kinds s.references s.uses x h e ∙ c.loop-remaining.invariant.1 in
-    found 5 (omega arith) (walk-over table c.loop-remaining.remaining c.loop-remaining.p (omega arith) c.if-p-t.true)
+    let t = c.args.t.now in
+    let l = c.loop in
+    let n = rule_count t - l.counter in
+    tested-found t n l.p l.tested.kinds l.tested.references l.tested.uses 5 (omega arith)
+    (walk-over t n l.p (omega (arith, c.loop-test.false)) c.if-p-t.true)
+    ∙ l.invariant.1
 
 pub returns : goal.returns
 returns c =
-    let table : List ℕ = c.args.t.now in
-    let s = c.loop-remaining.tested in
-    c.lowest.ensures ∙ tested-end table c.loop-remaining.remaining c.loop-remaining.p s.kinds s.references s.uses (omega arith) c.if-p-t.false ∙ c.loop-remaining.invariant.1
+    let t = c.args.t.now in
+    let l = c.loop in
+    let n = rule_count t - l.counter in
+    c.lowest.ensures
+    ∙ tested-end t n l.p l.tested.kinds l.tested.references l.tested.uses (omega (arith, c.loop-test.false)) c.if-p-t.false ∙ l.invariant.1

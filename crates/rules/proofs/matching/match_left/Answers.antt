@@ -11,12 +11,18 @@ use Rattle.rules.proofs.RefusalLaws.{left-operands-small}
 use Rattle.rules.proofs.matching.match_left.Goals as goal
 
 pub match_gate-requires : goal.match_gate-requires
-match_gate-requires c = let w = c.requires.well_formed_rule in
-    let h = c.requires.i_bound in
-    let f = c.left_from in record { well_formed = c.requires.well_formed; from_value = c.requires.from_value; q_in_bounds = (omega (arith, w.sized, h, f.ensures), omega (arith, w.sized, h)); q_bound = left-operands-small c.args.t.now c.args.p w c.args.i h f.result f.ensures }
+match_gate-requires c = let w = c.args.rule.now.well_formed in
+    let h = c.requires in
+    let s = w.sized in
+    let f = c.left_from in
+    record {
+      q_in_bounds = (omega (arith, w.sized, h, f.ensures), omega (arith, w.sized, h));
+      q_bound = left-operands-small c.args.rule.now.table.now c.args.rule.now.from w c.args.i h f.result f.ensures;
+    }
 
 pub returns : goal.returns
 returns c = let a = c.args in
     c.match_gate.ensures
-    ∙ ap (λ g. match_gate (decode a.c.now) (first_gate (holes_at a.t.now a.p) + a.i) g a.swap a.b.now)
-    (left-line a.t.now a.p a.i c.requires.i_bound c.left_from.result c.left_from.ensures)
+    ∙ rw c.base.ensures
+    (ap (λ g. match_gate (decode a.c.now) (first_gate (holes_at a.rule.now.table.now a.rule.now.from) + a.i) g a.swap a.b.now)
+    (left-line a.rule.now.table.now a.rule.now.from a.i c.requires c.left_from.result c.left_from.ensures))

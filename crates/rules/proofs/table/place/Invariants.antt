@@ -3,8 +3,8 @@ use Prim.Native.Nat.{◌-◌, ◌≤◌}
 use Rattle.rules.specs.RuleTable.{rules_from, place_from}
 use Rattle.rules.proofs.table.place.Given as goal
 
-abbrev pub invariant-loop-i : goal.invariant-loop-i
-invariant-loop-i l = (l.i ≤ l.before) × (l.p ≡ place_from l.t (rules_from l.t) l.i)
-
-abbrev pub decreases-loop-i : goal.decreases-loop-i
-decreases-loop-i l = l.before - l.i
+abbrev pub invariant-loop : goal.invariant-loop
+invariant-loop l = record {
+  in_range : (1 ≤ l.counter) × (l.counter ≤ l.rule);
+  at : l.p ≡ place_from l.t (rules_from l.t) (l.counter - 1);
+}

@@ -8,14 +8,14 @@ use borrow.Author.Rules.{rules}
 use Rattle.translator.proofs.last_use.mark_operands.Goals as goal
 
 pub loop-i-init : goal.loop-i-init
-loop-i-init c = (search rules, c.requires.last_len, last_none (gate_lines c.args.t.now) c.args.last.now c.requires.by_index)
+loop-i-init c = (search rules, c.told-last, last_none (gate_lines c.args.circuit.now) c.args.last.now c.requires)
 
 pub loop-i-preserved : goal.loop-i-preserved
-loop-i-preserved c = let g = c.gate_line-line in
+loop-i-preserved c = let g = c.gate-gate in
     let l = c.loop-i in
-    let t = c.args.t.now in
+    let t = c.args.circuit.now in
     let read = sym g.ensures.value in
     (search rules, simp length-set l.invariant.1, last_more (gate_lines t) l.last l.i _ l.invariant.2 read (search rules) (search rules))
 
 pub returns : goal.returns
-returns c = let l = c.loop-i in record { by_index_2 = last-all c.args.t.now l.last l.i (omega arith) l.invariant.2; last_len_2 = l.invariant.1 }
+returns c = let l = c.loop-i in last-all c.args.circuit.now l.last l.i (omega arith) l.invariant.2

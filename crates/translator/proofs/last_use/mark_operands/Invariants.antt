@@ -7,4 +7,4 @@ use Rattle.translator.proofs.LastUseLaws.{LastTo}
 use Rattle.translator.proofs.last_use.mark_operands.Given as goal
 
 abbrev pub invariant-loop-i : goal.invariant-loop-i
-invariant-loop-i l = (l.i ≤ l.gates) × (length l.last ≡ max_references) × LastTo (gate_lines l.t) l.last l.i
+invariant-loop-i l = (l.i ≤ l.i-end) × (length l.last ≡ max_references) × LastTo (gate_lines l.circuit) l.last l.i

@@ -7,26 +7,31 @@ use borrow.Author.Rules.{rules}
 use Rattle.translator.proofs.last_use.mark_outputs.Goals as goal
 
 pub loop-i-init : goal.loop-i-init
-loop-i-init c = (search rules, c.requires.last_len, search rules, uses-none c.args.t.now c.args.last.now c.requires.by_index)
+loop-i-init c =
+    record { long = c.told-last; few = search rules; uses = rw c.outputs-i.ensures.value (uses-none c.args.circuit.now c.args.last.now c.requires) }
 
 pub loop-i-preserved-then-last-reference : goal.loop-i-preserved-then-last-reference
 loop-i-preserved-then-last-reference c = let l = c.loop-i in
-    let t = c.args.t.now in (
-      search rules,
-      simp length-set l.invariant.1,
-      search rules,
-      uses-new t l.last l.distinct l.i (l.i - 1) _ l.invariant.3 (omega arith) (omega arith) c.output_reference-reference.ensures.value c.if-last-reference.true (search rules),
-    )
+    let o = c.output-reference.ensures in
+    record {
+      long = simp length-set l.invariant.long;
+      few = search rules;
+      uses = rw c.gates.ensures.value
+          (uses-new c.args.circuit.now l.last l.distinct l.i (l.i - 1) _ l.invariant.uses (omega arith) (omega arith) o.value
+          (rw c.gates.ensures.value at c.if-last-reference.true) (omega (arith, o.upper_bound, c.gates.ensures.well_formed.sized, l.invariant.long)));
+    }
 
 pub loop-i-preserved : goal.loop-i-preserved
 loop-i-preserved c = let l = c.loop-i in
-    let t = c.args.t.now in (
-      search rules,
-      l.invariant.1,
-      search rules,
-      uses-old t l.last l.distinct l.i (l.i - 1) _ l.invariant.3 (omega arith) (omega arith) c.output_reference-reference.ensures.value c.if-last-reference.false,
-    )
+    let o = c.output-reference.ensures.value in
+    record {
+      long = l.invariant.long;
+      few = search rules;
+      uses = uses-old c.args.circuit.now l.last l.distinct l.i (l.i - 1) _ l.invariant.uses (omega arith) (omega arith) o
+          (rw c.gates.ensures.value at c.if-last-reference.false);
+    }
 
 pub returns : goal.returns
 returns c = let l = c.loop-i in
-    let all = uses-all c.args.t.now l.last l.distinct l.i (omega arith) l.invariant.3 in record { value = all.0; by_index_2 = all.1; last_len_2 = l.invariant.1 }
+    let all = uses-all c.args.circuit.now l.last l.distinct l.i (omega arith) l.invariant.uses in
+    record { value = all.0; last_uses = all.1 }

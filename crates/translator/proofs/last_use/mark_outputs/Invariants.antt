@@ -7,7 +7,9 @@ use Rattle.translator.proofs.LastUseLaws.{UsesFrom}
 use Rattle.translator.proofs.last_use.mark_outputs.Given as goal
 
 abbrev pub invariant-loop-i : goal.invariant-loop-i
-invariant-loop-i l = (l.i ≤ outputs l.t) × (length l.last ≡ max_references) × (l.distinct + l.i ≤ outputs l.t) × UsesFrom l.t l.last l.distinct l.i
-
-abbrev pub decreases-loop-i : goal.decreases-loop-i
-decreases-loop-i l = l.i
+invariant-loop-i l =
+    record {
+      long : length l.last ≡ max_references;
+      few : l.distinct + l.i ≤ outputs l.circuit;
+      uses : UsesFrom l.circuit l.last l.distinct l.i;
+    }

@@ -7,4 +7,10 @@ use Rattle.translator.proofs.CountingLaws.{UnloadedTo, HeldTo}
 use Rattle.translator.proofs.pressure.most_held.Given as goal
 
 abbrev pub invariant-loop-i : goal.invariant-loop-i
-invariant-loop-i l = (l.i ≤ l.gates) × (length l.unloaded ≡ max_references) × UnloadedTo (decode l.t) l.unloaded l.i × HeldTo l.t l.held l.most l.i
+invariant-loop-i l =
+    record {
+      below : l.i ≤ l.i-end;
+      long : length l.unloaded ≡ max_references;
+      unloaded : UnloadedTo (decode l.ranges.circuit) l.unloaded l.i;
+      held : HeldTo l.ranges.circuit l.held l.most l.i;
+    }

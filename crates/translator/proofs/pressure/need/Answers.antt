@@ -1,16 +1,24 @@
--- Nothing is marked in a new array; `need-read` puts the callees' promises together.
-use Prim.Native.Nat.{ℕ}
-use lib.ListN.{length-replicate}
+-- Nothing is marked in a new array but its front (`marked-front` in CountingLaws), and what is counted is the need (PressureLaws).
+use mathlib.Core.Bool.{false}
+use mathlib.Core.Path.{◌∙◌}
+use native.Mathlib.Omega.{arith}
+use lib.ListN.{replicate, length-replicate}
 use Rattle.circuit.specs.Circuit.{max_references}
-use Rattle.circuit.proofs.PassLaws.{zeros-at}
-use Rattle.translator.proofs.CountingLaws.{need-read}
+use Rattle.circuit.specs.Table.{decode}
+use Rattle.translator.proofs.CountingLaws.{unmarked, marked-front, unloaded-none, need-read}
+use Rattle.translator.proofs.PressureLaws.{linear-need}
+use Rattle.translator.proofs.TrimmedLaws.{trimmed-fixed}
 use Rattle.translator.proofs.pressure.need.Goals as goal
 
-pub mark_sources-requires : goal.mark_sources-requires
-mark_sources-requires c = record { well_formed = c.requires.well_formed; unloaded_len = length-replicate {A = ℕ} max_references 0; by_index = zeros-at max_references }
-
 pub most_held-requires : goal.most_held-requires
-most_held-requires c = let m = c.mark_sources.ensures in record { well_formed = c.requires.well_formed; t_value = c.requires.t_value; by_index = c.requires.by_index; unloaded_len = m.unloaded_len_2; by_index_2 = m.by_index_2 }
+most_held-requires c = let first = c.first_gate in
+    unloaded-none (decode c.args.ranges.now.circuit) _ first.result first.ensures.value
+    (marked-front (replicate max_references false) first.result c.fill.new.self
+    (omega (arith, first.ensures.well_formed.sized, length-replicate max_references false))
+    (c.fill.ensures.after (λ y e. e)) (unmarked max_references))
 
 pub returns : goal.returns
-returns c = need-read c.args.t.now c.most_held.result c.args.distinct c.larger.result c.most_held.ensures c.requires.distinct_value c.larger.ensures
+returns c =
+    let t = c.args.ranges.now.circuit in
+    need-read t c.most_held.result c.args.ranges.now.distinct c.max.result c.most_held.ensures c.args.ranges.now.distinct_outputs c.max.ensures
+    ∙ linear-need (decode t) (trimmed-fixed t c.first_gate.ensures.well_formed c.args.ranges.now.trimmed)

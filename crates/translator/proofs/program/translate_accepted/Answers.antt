@@ -1,10 +1,9 @@
--- Either array is as long as the table at least, and the rest is `translate_in`.
+-- No table has more than `max_table` numbers (law `starts-are-inputs`).
 use native.Mathlib.Omega.{arith}
 use Rattle.circuit.proofs.StartLaws.{starts-are-inputs}
 use Rattle.translator.proofs.program.translate_accepted.Goals as goal
 
-pub translate_in-requires : goal.translate_in-requires
-translate_in-requires c = record { well_formed = c.requires.well_formed; limit_le_max_registers = c.requires.limit_le_max_registers; t_in_bounds = omega (arith, c.requires.well_formed.sized, c.if-t-le-SMALL_TABLE.true); program_numbers_in_bounds = c.requires.program_numbers_in_bounds }
-
-pub translate_in-requires-2 : goal.translate_in-requires-2
-translate_in-requires-2 c = record { well_formed = c.requires.well_formed; limit_le_max_registers = c.requires.limit_le_max_registers; t_in_bounds = omega (arith, c.requires.well_formed.sized, starts-are-inputs c.args.t.now c.requires.well_formed); program_numbers_in_bounds = c.requires.program_numbers_in_bounds }
+pub translate_within-requires-else-table-le-SMALL_TABLE-clause-table_in_bounds
+    : goal.translate_within-requires-else-table-le-SMALL_TABLE-clause-table_in_bounds
+translate_within-requires-else-table-le-SMALL_TABLE-clause-table_in_bounds c = let w = c.table.ensures.well_formed in
+    omega (arith, w.sized, starts-are-inputs c.args.circuit.now w)

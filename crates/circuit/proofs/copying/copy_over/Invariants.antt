@@ -1,6 +1,0 @@
-use Prim.Native.Nat.{◌≤◌}
-use Rattle.lists.proofs.Written.{Written}
-use Rattle.circuit.proofs.copying.copy_over.Given as goal
-
-abbrev pub invariant-loop-i : goal.invariant-loop-i
-invariant-loop-i l = (l.i ≤ l.n) × Written l.from l.initial.to l.to l.i
