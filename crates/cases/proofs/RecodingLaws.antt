@@ -22,10 +22,10 @@ module _ (text table after : List ℕ) (n : ℕ) (q : leaving (gives (n ∷ []))
   success : (reading text table).answer ≡ gives (n ∷ [])
   success = ap (λ o. o.answer) (sym q)
 
-  table_is : after ≡ (reading text table).buffers
+  pub table_is : after ≡ (reading text table).buffers
   table_is = ap (λ o. o.buffers) q
 
-  read-so : Converted 19 3 is_line read_line text table (reading text table).buffers n
+  pub read-so : Converted 19 3 is_line read_line text table (reading text table).buffers n
   read-so = converted 19 3 is_line read_line text table row-length n success
 
   pub long-so : length text ≡ 19 * n

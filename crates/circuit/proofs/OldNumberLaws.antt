@@ -3,19 +3,20 @@ use mathlib.Core.Path.{◌≡◌, refl, sym, ap, ◌∙◌}
 use mathlib.Core.Bool.{Bool, true, false, and-false}
 use mathlib.Core.List.{List}
 use Prim.Native.Nat.{ℕ, zero, suc, ◌+◌, ◌≤◌, ◌<◌}
+use mir.Val.{bool_byte}
 use native.Mathlib.Nat.{not-suc-le-zero}
 use native.Mathlib.Decide.{ℕ_discrete}
 use native.Mathlib.Omega.{arith}
 use lib.Dec.{ltb}
 use lib.ListN.{take, get_or}
-use borrow.Author.Tests.{eq-eqb, ne_eqb, lt-ltb, le-ltb}
+use borrow.Author.Tests.{eq-eqb, ne_eqb}
 use Rattle.lists.proofs.Maps.{take-read}
 use Rattle.circuit.specs.Circuit.{first_gate, references}
 use Rattle.circuit.specs.Table.{inputs, refs, decode}
 use Rattle.circuit.specs.ReverseDepth.{reverse_depths}
 use Rattle.circuit.specs.Trim.{rank, is_kept, old_below, old_number}
 use Rattle.circuit.proofs.TableLaws.{refs-decode}
-use Rattle.circuit.proofs.RankLaws.{rank-kept, rank-gone, rank-suc, rank_mono, rank_lt, rank-id}
+use Rattle.circuit.proofs.RankLaws.{rank-kept, rank-gone, rank-suc, rank_mono, rank_lt, rank-id, rank-le}
 use Rattle.circuit.proofs.ReverseDepthLaws.{kept_low}
 use Rattle.circuit.proofs.KeptLaws.{gate-kept}
 
@@ -75,27 +76,29 @@ module _ (t : List ℕ) (v : ℕ) where
       read : ltb 0 (get_or u w 0) ≡ is_kept (decode t) w
       read = ap (ltb 0) (take-read (refs t) u (reverse_depths (decode t)) w 0 e h) ∙ sym (gate-kept (decode t) w s.low)
 
-      module _ (l : 0 < get_or u w 0) where
-        kept : is_kept (decode t) w ≡ true
-        kept = sym read ∙ lt-ltb 0 (get_or u w 0) l
+      -- reference w counted, if it is kept
+      pub sought-here : v < next + bool_byte (ltb 0 (get_or u w 0)) → w ≡ old_number (decode t) v
+      sought-here = go (ltb 0 (get_or u w 0)) read
+        where
+          go : (b : Bool) → b ≡ is_kept (decode t) w → v < next + bool_byte b → w ≡ old_number (decode t) v
+          go true k l =
+              let c = decode t in
+              let q : rank (is_kept c) w ≡ v = omega (arith, l, s.follows, s.unmet) in
+              sym (old-is (is_kept c) (references c) v w (references c) (sym k) q (omega (arith, refs-decode t)))
+          go false k l = let z : ⊥ = omega (arith, l, s.unmet) in absurd z
 
-        pub sought-here : next ≡ v → w ≡ old_number (decode t) v
-        sought-here q =
-            let c = decode t in
-            sym (old-is (is_kept c) (references c) v w (references c) kept (sym s.follows ∙ q) (omega (arith, refs-decode t)))
-
-        pub sought-kept : (next ≡ v → ⊥) → SoughtTo t v (next + 1) (w + 1)
-        sought-kept q =
-            record {
-              low = omega (arith, s.low);
-              follows = ap (λ x. x + 1) s.follows ∙ sym (rank-kept (is_kept (decode t)) w kept);
-              unmet = omega (arith, s.unmet, q);
-            }
-
-      pub sought-gone : get_or u w 0 ≤ 0 → SoughtTo t v next (w + 1)
-      sought-gone l =
+      pub sought-more : next + bool_byte (ltb 0 (get_or u w 0)) ≤ v → SoughtTo t v (next + bool_byte (ltb 0 (get_or u w 0))) (w + 1)
+      sought-more l =
           record {
             low = omega (arith, s.low);
-            follows = s.follows ∙ sym (rank-gone (is_kept (decode t)) w (sym read ∙ le-ltb 0 (get_or u w 0) l));
-            unmet = s.unmet;
+            follows = go (ltb 0 (get_or u w 0)) read;
+            unmet = l;
           }
+        where
+          go : (b : Bool) → b ≡ is_kept (decode t) w → next + bool_byte b ≡ rank (is_kept (decode t)) (w + 1)
+          go true k = ap (λ x. x + 1) s.follows ∙ sym (rank-kept (is_kept (decode t)) w (sym k))
+          go false k = omega (arith, s.follows, rank-gone (is_kept (decode t)) w (sym k))
+
+    pub sought-fits : (b : Bool) → next + bool_byte b ≤ w + 1
+    sought-fits true = omega (arith, s.follows, rank-le (is_kept (decode t)) w)
+    sought-fits false = omega (arith, s.follows, rank-le (is_kept (decode t)) w)

@@ -8,6 +8,6 @@ pub use crate::critical::{
 pub use crate::depth::{depths_from, output_depth};
 pub use crate::table::{
     CLOSING, CONSTANTS, Circuit, Gate, Kind, LAST_REFERENCE, MAX_GATES, MAX_INPUTS, MAX_LINES,
-    MAX_OUTPUTS, MAX_REFERENCES, MAX_TABLE, SMALL_TABLE, START,
+    MAX_OUTPUTS, MAX_REFERENCES, MAX_TABLE, SMALL_TABLE, START, closings_from, gates_from,
 };
 pub use crate::trimming::{old_number, trim, trim_by_reverse_depths, trim_depths};

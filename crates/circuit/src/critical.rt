@@ -48,6 +48,7 @@ pub fn critical_with_reverse_depths(
     ensures u_after { u.new ≡ over (reverse_depths (decode circuit.now)) u.old }
 {
     mark_outputs(circuit, u);
+    let circuit = Circuit::of(circuit.table());
     let first = circuit.first_gate() as usize;
     let mut count: u32 = 0;
     for i in (0..circuit.gates()).rev() {

@@ -53,6 +53,7 @@ fn set_levels(circuit: &Circuit<'_>, d: &mut [u32])
     requires { first_gate (inputs circuit.now) ≤ length d.old }
     ensures { d.new ≡ set_levels (decode circuit.now).starts d.old }
 {
+    let circuit = Circuit::of(circuit.table());
     for i in 0..circuit.starts() {
         let start = circuit.start(i);
         d[start.input as usize] = start.level;
@@ -75,6 +76,7 @@ pub fn depths_from(circuit: &Circuit<'_>, start: usize, d: &mut [u32])
     requires d_value { take (first_gate (inputs circuit.now) + start) d.old ≡ take (first_gate (inputs circuit.now) + start) (depths (decode circuit.now)) }
     ensures { d.new ≡ over (depths (decode circuit.now)) d.old }
 {
+    let circuit = Circuit::of(circuit.table());
     let first = circuit.first_gate() as usize;
     for i in start..circuit.gates() {
         let g = circuit.gate(i);

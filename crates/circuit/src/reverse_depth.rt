@@ -40,6 +40,7 @@ pub fn mark_outputs(circuit: &Circuit<'_>, u: &mut [u32])
         over (mark_outputs (decode circuit.now).outputs (replicate (refs circuit.now) 0)) u.old }
 {
     clear(u, circuit.references());
+    let circuit = Circuit::of(circuit.table());
     for i in 0..circuit.outputs() {
         u[circuit.output(i)] = 1;
     }
@@ -52,6 +53,7 @@ pub fn reverse_depths(circuit: &Circuit<'_>, u: &mut [u32])
     ensures { u.new ≡ over (reverse_depths (decode circuit.now)) u.old }
 {
     mark_outputs(circuit, u);
+    let circuit = Circuit::of(circuit.table());
     let first = circuit.first_gate() as usize;
     for i in (0..circuit.gates()).rev() {
         raise_operands(circuit.gate(i), first + i, u);

@@ -119,7 +119,8 @@ impl<'a> Model for Circuit<'a> {
 }
 
 impl<'a> Circuit<'a> {
-    // The circuit that a well-formed table says.
+    // The circuit that a well-formed table says. A loop that reads a circuit's lines and writes takes the circuit up anew before, from its
+    // table: the parts of a local stay in registers, where those behind a reference would be read again after each write.
     pub fn of(table: &'a [u32]) -> Self
         requires { WellFormed table.now }
         ensures { result ≡ table.now }

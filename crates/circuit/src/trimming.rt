@@ -54,17 +54,19 @@ fn write_gates(circuit: &Circuit<'_>, u: &[u32], names: &mut [u32], out: &mut [u
     ensures out_after { out.new ≡ sets out.old (gates_from circuit.now) (encode_lines (trimmed_gates (decode circuit.now))) }
 {
     name_inputs(circuit, names);
+    let circuit = Circuit::of(circuit.table());
     let from = circuit.gates_from();
     let first = circuit.first_gate();
     let mut kept: u32 = 0;
     for i in 0..circuit.gates() {
         let own = first as usize + i;
         names[own] = first + kept;
-        if u[own] == 0 {
-            continue;
+        let live = 0 < u[own];
+        if live {
+            write_gate(&circuit, i, names, out, from + 3 * kept as usize);
         }
-        write_gate(circuit, i, names, out, from + 3 * kept as usize);
-        kept += 1;
+        // Counted behind the branch, not in it, where the compiler would make two loops of one, the inner for the gates that are dropped.
+        kept += live as u32;
     }
     kept
 }
@@ -77,6 +79,7 @@ fn write_closings(circuit: &Circuit<'_>, names: &[u32], out: &mut [u32], at: usi
     ensures out_after { out.new ≡ sets out.old at (encode_lines (map closing_line (trimmed_outputs (decode circuit.now)))) }
     ensures value { result ≡ at + 3 * outputs circuit.now }
 {
+    let circuit = Circuit::of(circuit.table());
     let outputs = circuit.outputs();
     for i in 0..outputs {
         write_row(out, at + 3 * i, CLOSING, names[circuit.output(i)], 0);
@@ -189,13 +192,11 @@ fn old_by_reverse_depths(circuit: &Circuit<'_>, u: &[u32], v: u32) -> u32
     let refs = circuit.references() as u32;
     let mut next = first;
     for w in first..refs {
-        if u[w as usize] == 0 {
-            continue;
-        }
-        if next == v {
+        // No processor foresees which references are live, so no branch tells them apart.
+        next += (0 < u[w as usize]) as u32;
+        if v < next {
             return w;
         }
-        next += 1;
     }
     refs
 }

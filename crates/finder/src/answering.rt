@@ -34,8 +34,7 @@ fn found_in(
     requires { limit ≤ max_ways }
     ensures { values_or result ≡ found_values (decode c.now) rules.now.table.now number gate limit }
 {
-    let rule = rules.judged(number)?;
-    early_verdict(c, gate)?;
+    let rule = early_verdict(c, rules.judged(number), gate)?;
     Ok(found_by(limit, search_at(c, &rule, gate, limit)))
 }
 

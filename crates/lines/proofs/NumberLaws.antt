@@ -3,11 +3,12 @@ use mathlib.Core.Path.{◌≡◌, refl, sym, ap, ◌∙◌, subst}
 use mathlib.Core.Bool.{Bool, true, false, ◌&&◌, ◌||◌, false≢true}
 use mathlib.Core.List.{List, [], ◌∷◌, ◌++◌, append_assoc}
 use Prim.Native.Nat.{ℕ, zero, suc, ◌+◌, ◌-◌, ◌*◌, ◌/◌, ◌%◌, ◌≤◌, ◌<◌}
-use native.Mathlib.Nat.{div-eq_of_lt, mod-eq_of_lt, div-add-mod', zero-div}
+use native.Mathlib.Nat.{div-eq_of_lt, mod-eq_of_lt, div-add-mod', add-zero, zero-div}
 use native.Mathlib.Numerals.{add-one}
 use native.Mathlib.Omega.{arith}
 use lib.Dec.{eqb, leb, ltb}
-use lib.ListN.{length, take, get_or, set, replicate, length-append, replicate-append-replicate}
+use lib.ListN.{length, take, drop, get_or, set, replicate, length-append, length-drop, replicate-append-replicate}
+use lib.Seq.{get_or-drop}
 use borrow.Author.Tests.{ne_eqb, le-leb, eqb-true, eqb-false, leb-true, ltb-true, ltb-false}
 use Rattle.lists.specs.First.{first}
 use Rattle.lists.specs.Same.{same}
@@ -266,6 +267,11 @@ pub number-test : (t : List ℕ) → 6 ≤ length t → passes (get_or t 0 0) (g
 unfolding read_number
 number-test t h = rw (first-six t h) (six-test (get_or t 0 0) (get_or t 1 0) (get_or t 2 0) (get_or t 3 0) (get_or t 4 0) (get_or t 5 0))
 
+-- the same of the bytes from a place on
+pub number-test-at : (t : List ℕ) (at : ℕ) → at + 6 ≤ length t
+    → passes (get_or t at 0) (get_or t (at + 1) 0) (get_or t (at + 2) 0) (get_or t (at + 3) 0) (get_or t (at + 4) 0) (get_or t (at + 5) 0) ≡ is_number (drop at t)
+number-test-at t at h = simp (get_or-drop, add-zero) at (number-test (drop at t) (rw length-drop (omega arith)))
+
 -- ---- reading six columns that are a number
 
 -- the low half of a column's byte is what it adds
@@ -298,6 +304,12 @@ unfolding read_number
 number-low t h e =
     six_low (get_or t 0 0) (get_or t 1 0) (get_or t 2 0) (get_or t 3 0) (get_or t 4 0) (get_or t 5 0) (read_number t)
     (sym (first-six t h) ∙ same-is (take 6 t) (write_number (read_number t)) (right_of (leb (read_number t) 999999) _ e))
+
+-- the same of the bytes from a place on
+pub number-low-at : (t : List ℕ) (at : ℕ) → at + 6 ≤ length t → is_number (drop at t) ≡ true
+    → ((((get_or t at 0 % 16 * 10 + get_or t (at + 1) 0 % 16) * 10 + get_or t (at + 2) 0 % 16) * 10 + get_or t (at + 3) 0 % 16) * 10
+    + get_or t (at + 4) 0 % 16) * 10 + get_or t (at + 5) 0 % 16 ≡ read_number (drop at t)
+number-low-at t at h e = simp (get_or-drop, add-zero) at (number-low (drop at t) (rw length-drop (omega arith)) e)
 
 -- ---- reading back
 

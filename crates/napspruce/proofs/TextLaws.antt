@@ -44,11 +44,11 @@ module _ (text : List ℕ) where
       let right : all_records is_line 19 (length text / 19) text ≡ true = rw (← v.whole.count) v.right in
       none_found (line_checks 19 is_line text) (check-passes _ 1 _ v.not-partial, (check-passes _ 3 _ (ap not right), tt))
 
-  text-valid : (n : ℕ) → validating text ≡ gives (n ∷ []) → 0 ≡ text_refusal text
+  pub text-valid : (n : ℕ) → validating text ≡ gives (n ∷ []) → 0 ≡ text_refusal text
   unfolding text_refusal validation
   text-valid n e = sym (none_found (line_checks 19 is_line text) (answer-given (line_checks 19 is_line text) _ _ e).0)
 
-  text-refused : (k t : ℕ) → validating text ≡ refused k t → k ≡ text_refusal text
+  pub text-refused : (k t : ℕ) → validating text ≡ refused k t → k ≡ text_refusal text
   unfolding text_refusal validation
   text-refused k t e = ap (λ r. r.number) (answer-turned (line_checks 19 is_line text) _ k t e).0
 

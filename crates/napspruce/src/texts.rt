@@ -20,7 +20,7 @@ const REST_READ: usize = (MAX_GATES + MAX_OUTPUTS) as usize + 1;
 // As many lines as are read of it in all.
 pub const CIRCUIT_LINES: usize = 1 + STARTS_READ + REST_READ;
 
-// Refusal 1, then 3, of a whole text of any length, as a fault of the table that is to be read of it. A success gives the number of lines.
+// Refusal 1, then 3, of a whole text of any length, as a fault of the table that is to be read of it.
 pub fn check_text(text: &[u8], table: Table) -> Result<usize, Refusal>
     ensures { found_by result ≡ first_found (found (text_refusal text.now) (table_number (Some table)) ∷ []) }
 {

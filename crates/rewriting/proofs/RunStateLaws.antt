@@ -1,4 +1,4 @@
--- What a step makes of the working table, and what the loop over the sites makes of the steps. Assumes nothing.
+-- What a step makes of the circuit as it then is, and what the loop over the sites makes of the steps. Assumes nothing.
 use mathlib.Core.Path.{◌≡◌, refl, sym, ap, ap₂, ◌∙◌}
 use mathlib.Core.Bool.{Bool, true, false}
 use mathlib.Core.List.{List, []}
@@ -152,7 +152,7 @@ module _ (t rules : List ℕ) (s : State) (e : decode t ≡ s.circuit) (site : S
         new-valid : Valid (replaced (decode t) rules site)
         new-valid = replaced-valid (decode t) (valid-decode t w) rules r site none
 
-        replaced-well-formed : WellFormed x
+        pub replaced-well-formed : WellFormed x
         replaced-well-formed =
             rw replaced-table
             (well-formed-encode (replaced (decode t) rules site) new-valid

@@ -206,7 +206,7 @@ impl Run {
     {
         let rule = rules.judged_once(number, known)?;
         let circuit = self.circuit(current);
-        let b = match_judged(&circuit, &rule, gate, mask)?;
+        let b = match_judged(&circuit, Ok(rule), gate, mask)?;
         check_size(&circuit, &rule)?;
         let end = replace(&circuit, &rule, gate, &b, work);
         self.settle(&Circuit::of(&work[..end]), gate, current, w)

@@ -1,5 +1,5 @@
 -- What the judge finds of a rule, its place or a verdict: what this leads to, and how it is kept by rule number. Assumes nothing.
-use mathlib.Core.Path.{◌≡◌, refl, sym, ap, ◌∙◌}
+use mathlib.Core.Path.{◌≡◌, refl, sym, ap, ap₂, ◌∙◌}
 use mathlib.Core.Bool.{Bool, true, false, not}
 use mathlib.Core.List.{List}
 use Prim.Native.Nat.{ℕ, zero, suc, ◌+◌, ◌≤◌, ◌<◌}
@@ -7,36 +7,41 @@ use native.Mathlib.Omega.{arith}
 use lib.Dec.{eqb}
 use lib.ListN.{length, get_or, set, replicate, length-set, length-replicate}
 use lib.Seq.{get_or-set_same, get_or-set_other}
-use borrow.Author.Tests.{eqb-true, eqb-false}
-use Rattle.std.specs.Prelude.{Result, Ok, Err, Option, Some, None}
+use borrow.Author.Tests.{ne_eqb, eqb-true, eqb-false}
+use Rattle.std.specs.Prelude.{Result, Ok, Err, IfOk, IfErr, Option, Some, None}
 use Rattle.lists.specs.First.{first}
+use Rattle.lists.proofs.First.{first-true}
 use Rattle.circuit.specs.Circuit.{Circuit}
 use Rattle.circuit.specs.Path.{is_gate}
 use Rattle.rules.specs.declared.Verdict.{Verdict}
 use Rattle.rules.specs.declared.Verdict.TheVariants.{NoRule, NotSound}
 use Rattle.rules.specs.Rule.{Rule, max_rules}
-use Rattle.rules.specs.RuleTable.{rule_at, place_of, rule_of}
+use Rattle.rules.specs.RuleTable.{rule_at, rule_of}
 use Rattle.rules.specs.Soundness.{is_sound}
-use Rattle.rules.specs.Verdict.{passes, no_rule, not_sound, not_a_gate, has_rule, judgement, early_verdict, failing, verdict_number, number_of, match_at, match_site, match_judged}
-use Rattle.rules.specs.Remembered.{said_or, judged_rule, Remembered}
+use Rattle.rules.specs.Verdict.{SiteMatch, passes, no_rule, not_sound, not_a_gate, has_rule, judgement, early_verdict, failing, verdict_number, number_of, match_at, match_site, match_judged}
+use Rattle.rules.specs.Remembered.{said, said_or, judged_rule, Placed, Remembered}
 use Rattle.rules.specs.declared.rule.Rule.{Rule as TableRule}
 use Rattle.rules.specs.WellFormed.{WellFormedRules}
 use Rattle.rules.proofs.WalkLaws.{rule-to}
+use Rattle.rules.proofs.VerdictLaws.{verdict_some}
 
 module _ (t : List ℕ) (rule : ℕ) where
   pub judged-missing : has_rule t rule ≡ false → Err NoRule ≡ judged_rule t rule
   unfolding judged_rule
   judged-missing h = rw h
 
-  -- p is where the rule begins
-  module _ (h : has_rule t rule ≡ true) (p : ℕ) (e : p ≡ place_of t rule) where
-    pub judged-unsound : is_sound (rule_at t p) ≡ false → Err NotSound ≡ judged_rule t rule
-    unfolding judged_rule
-    judged-unsound s = rw (h, ← e, s)
+  -- u is the rule of that number
+  module _ (h : has_rule t rule ≡ true) (u : TableRule) (p : Placed t rule u) where
+    placed-said : said u ≡ rule_of t rule
+    placed-said = ap₂ rule_at p.table p.from
 
-    pub judged-sound : is_sound (rule_at t p) ≡ true → Ok (rule_at t p) ≡ judged_rule t rule
+    pub judged-unsound : is_sound (said u) ≡ false → Err NotSound ≡ judged_rule t rule
     unfolding judged_rule
-    judged-sound s = rw (h, ← e, s)
+    judged-unsound s = rw (h, ap is_sound (sym placed-said) ∙ s)
+
+    pub judged-sound : is_sound (said u) ≡ true → Ok (said u) ≡ judged_rule t rule
+    unfolding judged_rule
+    judged-sound s = rw (h, placed-said, ap is_sound (sym placed-said) ∙ s)
 
   -- a number that no table has
   pub judged-beyond : WellFormedRules t → max_rules < rule → Err NoRule ≡ judged_rule t rule
@@ -91,6 +96,17 @@ module _ (t : List ℕ) (rule : ℕ) where
         go true true q = cc
         go true false q = let k : v ≡ NotSound = cc in ap (λ x. failing (verdict_number x)) k
         go false s q = let k : v ≡ NoRule = cc in ap (λ x. failing (verdict_number x)) k
+
+  -- j is what the judge found, and m what the match says of it
+  pub matched-site : (j : Result TableRule Verdict) → said_or j ≡ judged_rule t rule → (c : Circuit) (gate mask : ℕ) (m : SiteMatch)
+      → IfOk j (λ r. m ≡ match_judged c (said r) passes gate mask)
+      → IfErr j (λ v. (u : Rule) → m ≡ match_judged c u (verdict_number v) gate mask)
+      → m ≡ match_site c t rule gate mask
+  matched-site (Ok r) e c gate mask m p q = p ∙ judged-site (said r) e c gate mask
+  matched-site (Err v) e c gate mask m p q =
+      q (rule_of t rule)
+      ∙ first-true (failing (verdict_number v)) _ (ap not (ne_eqb (verdict_number v) passes (verdict_some v)))
+      ∙ refused-site v e c gate mask
 
 -- a rule, and what is said of it, pass alike
 pub said-number : (r : Result TableRule Verdict) → number_of r ≡ number_of (said_or r)
@@ -153,21 +169,31 @@ module _ (t : List ℕ) where
   remembered-none known e =
       record {
         long = ap length e ∙ length-replicate (max_rules + 1) no_entry;
-        right = λ r j h. let z : no_entry ≡ Some j = sym (none_at (max_rules + 1) r) ∙ sym (ap (λ k. get_or k r None) e) ∙ h in cc;
+        right = λ r j h. absurd (empty r j h);
+        placed = λ r j h. absurd (empty r j h);
       }
+    where
+      empty : (r : ℕ) (j : Result TableRule Verdict) → get_or known r None ≡ Some j → ⊥
+      empty r j h = let z : no_entry ≡ Some j = sym (none_at (max_rules + 1) r) ∙ sym (ap (λ k. get_or k r None) e) ∙ h in cc
 
   module _ (known : List (Option (Result TableRule Verdict))) (m : Remembered t known) (rule : ℕ) (h : rule ≤ max_rules) where
-    pub remembered-more : (j : Result TableRule Verdict) → said_or j ≡ judged_rule t rule → Remembered t (set known rule (Some j))
-    remembered-more j e =
+    pub remembered-more : (j : Result TableRule Verdict) → said_or j ≡ judged_rule t rule → IfOk j (Placed t rule) → Remembered t (set known rule (Some j))
+    remembered-more j e p =
         record {
           long = length-set known rule (Some j) ∙ m.long;
-          right = λ r k. go r k (eqb r rule) refl;
+          right = λ r k n. either r k n (λ x y. said_or x ≡ judged_rule t y) e (m.right r k);
+          placed = λ r k n. either r k n (λ x y. IfOk x (Placed t y)) p (m.placed r k);
         }
       where
-        go : (r : ℕ) (k : Result TableRule Verdict) (b : Bool) → eqb r rule ≡ b → get_or (set known rule (Some j)) r None ≡ Some k → said_or k ≡ judged_rule t r
-        go r k true q n =
-            let same = get_or-set_same known rule (Some j) None (omega (arith, m.long)) in
-            let z : Some j ≡ Some k = sym same ∙ (rw (eqb-true r rule q) at n) in
-            let y : k ≡ j = cc in
-            rw (eqb-true r rule q) (ap said_or y ∙ e)
-        go r k false q n = m.right r k (sym (get_or-set_other known rule r (Some j) None (eqb-false r rule q)) ∙ n)
+        -- what is kept for r is j, or what was kept
+        either : (r : ℕ) (k : Result TableRule Verdict) → get_or (set known rule (Some j)) r None ≡ Some k → (P : Result TableRule Verdict → ℕ → Type 0)
+            → P j rule → (get_or known r None ≡ Some k → P k r) → P k r
+        either r k n P new old = go (eqb r rule) refl
+          where
+            go : (b : Bool) → eqb r rule ≡ b → P k r
+            go true q =
+                let same = get_or-set_same known rule (Some j) None (omega (arith, m.long)) in
+                let z : Some j ≡ Some k = sym same ∙ (rw (eqb-true r rule q) at n) in
+                let y : k ≡ j = cc in
+                rw (eqb-true r rule q, y) new
+            go false q = old (sym (get_or-set_other known rule r (Some j) None (eqb-false r rule q)) ∙ n)

@@ -8,7 +8,7 @@ use native.Mathlib.Decide.{dec_lt}
 use native.Mathlib.Omega.{arith}
 use lib.Dec.{eqb}
 use lib.ListN.{length, drop}
-use borrow.Author.Tests.{eq-eqb, ne_eqb, lt-ltb, le-ltb}
+use borrow.Author.Tests.{eq-eqb, ne_eqb, eqb-true, lt-ltb, le-ltb}
 use Rattle.std.specs.Prelude.{◌+◌, Result, Ok, Err}
 use denote.Enum.Declared.{tag_of}
 use Rattle.std.specs.Result.{result_err}
@@ -97,26 +97,35 @@ pub err-verdict : (r : Result (List ℕ) Verdict) → applied_number (result_err
 err-verdict (Ok b) = refl
 err-verdict (Err v) = refl
 
--- of a rule that the judge has passed
-module _ (c : Circuit) (gate : ℕ) where
-  pub early-gate : passes ≡ early_verdict c passes gate → is_gate c gate ≡ true
-  early-gate = go (is_gate c gate)
-    where
-      go : (b : Bool) → passes ≡ first (not b) not_a_gate passes → b ≡ true
-      go true e = refl
-      go false e = let no_way : ⊥ = omega arith in absurd no_way
+-- of a rule of which the judge said j
+module _ (c : Circuit) (gate j : ℕ) where
+  -- none of them applies
+  module _ (e : passes ≡ early_verdict c j gate) where
+    early-judge : j ≡ passes
+    early-judge = go (eqb j passes) refl e
+      where
+        go : (b : Bool) → eqb j passes ≡ b → passes ≡ first b (first (not (is_gate c gate)) not_a_gate passes) j → j ≡ passes
+        go true q h = eqb-true j passes q
+        go false q h = sym h
 
-  pub early-passed : passes ≡ early_verdict c passes gate → (u : Rule) (mask : ℕ) → match_at c u gate mask ≡ match_judged c u passes gate mask
-  early-passed e u mask = rw (early-gate e)
+    pub early-gate : is_gate c gate ≡ true
+    early-gate = go (is_gate c gate) (rw early-judge at e)
+      where
+        go : (b : Bool) → passes ≡ first (not b) not_a_gate passes → b ≡ true
+        go true h = refl
+        go false h = let no_way : ⊥ = omega arith in absurd no_way
 
-  pub early-failing : (v : Verdict) → verdict_number v ≡ early_verdict c passes gate → (u : Rule) (mask : ℕ)
-      → failing (verdict_number v) ≡ match_judged c u passes gate mask
-  early-failing v e u mask = go (is_gate c gate) e
+    pub early-passed : (u : Rule) (mask : ℕ) → match_at c u gate mask ≡ match_judged c u j gate mask
+    early-passed u mask = rw (early-judge, early-gate)
+
+  pub early-failing : (v : Verdict) → verdict_number v ≡ early_verdict c j gate → (u : Rule) (mask : ℕ)
+      → failing (verdict_number v) ≡ match_judged c u j gate mask
+  early-failing v e u mask = go (eqb j passes) refl (is_gate c gate) refl
     where
-      go : (b : Bool) → verdict_number v ≡ first (not b) not_a_gate passes
-          → failing (verdict_number v) ≡ first (not b) (failing not_a_gate) (match_at c u gate mask)
-      go true q = absurd (verdict_some v q)
-      go false q = ap failing q
+      go : (b : Bool) → eqb j passes ≡ b → (g : Bool) → is_gate c gate ≡ g → failing (verdict_number v) ≡ match_judged c u j gate mask
+      go true h true k = absurd (verdict_some v (rw (h, k) at e))
+      go true h false k = rw (h, k) (ap failing (rw (h, k) at e))
+      go false h g k = rw h (ap failing (rw h at e))
 
 -- ---- the match
 

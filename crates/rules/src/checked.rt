@@ -6,4 +6,6 @@ pub use crate::matching::{match_left, start_bindings};
 pub use crate::rule::{Rule, Rules};
 pub use crate::site::Sites;
 pub use crate::site_match::{early_verdict, match_judged};
-pub use crate::table::{Bindings, HEAD, MAX_LEFTS, MAX_RIGHTS, MAX_RULES, MAX_SITES, RULE_NUMBERS};
+pub use crate::table::{
+    BINDINGS, Bindings, HEAD, MAX_LEFTS, MAX_RIGHTS, MAX_RULES, MAX_SITES, RULE_NUMBERS,
+};

@@ -1,18 +1,18 @@
 // Whether a rule is sound: the truth tables of its two sides as words, one bit for each assignment of the holes, and one compare a word (01,
 // Rules, 6; 02, 2026-07).
-ghost use Rattle.std.specs.Prelude.{◌≡◌, true, ◌+◌, ◌*◌, ◌<◌, ◌≤◌, length, take, drop};
+ghost use Rattle.std.specs.Prelude.{◌≡◌, true, ◌+◌, ◌*◌, ◌<◌, ◌≤◌, length, take, drop, IfOk};
 ghost use Rattle.circuit.specs.Circuit.{first_gate};
 ghost use Rattle.circuit.specs.Each.{all_gates};
 ghost use Rattle.circuit.specs.Refusal.{operands_below};
 ghost use Rattle.circuit.specs.Table.{lines_of};
 ghost use Rattle.rules.specs.Rule.{max_holes, max_left_references};
-ghost use Rattle.rules.specs.Remembered.{said, said_or, judged_rule, Remembered};
+ghost use Rattle.rules.specs.Remembered.{said, said_or, judged_rule, Placed, Remembered};
 ghost use Rattle.rules.specs.Soundness.{side_value, is_sound};
 ghost use Rattle.rules.specs.Words.{masked_holes, assignments_per_word, hole_word, start_words, same_words, words_for};
 
 use crate::Verdict;
 use crate::rule::{Rule, Rules};
-use crate::table::{BINDINGS, MAX_RULES, RULE_NUMBERS, has_rule, place};
+use crate::table::{BINDINGS, MAX_RULES, RULE_NUMBERS};
 use circuit::checked::{CONSTANTS, Kind};
 
 // Assignments go in blocks of 64, a bit of a word each: block w begins with assignment 64 w. So many holes have masks, which are their words
@@ -162,15 +162,11 @@ fn is_sound(rule: &Rule) -> bool
 impl<'a> Rules<'a> {
     // The rule of a number, or the judge's verdict on it.
     pub fn judged(&self, number: u32) -> Result<Rule<'a>, Verdict>
-        ensures { said_or result ≡ judged_rule self.now.table.now number }
+        ensures value { said_or result ≡ judged_rule self.now.table.now number }
+        ensures placed { IfOk result (Placed self.now.table.now number) }
     {
-        let table = self.table;
-        if !has_rule(table, number) {
+        let Some(rule) = self.rule(number) else {
             return Err(Verdict::NoRule);
-        }
-        let rule = Rule {
-            table,
-            from: place(table, number),
         };
         if !is_sound(&rule) {
             return Err(Verdict::NotSound);
@@ -182,6 +178,7 @@ impl<'a> Rules<'a> {
     pub fn judged_once(&self, number: u32, known: &mut Judgements<'a>) -> Result<Rule<'a>, Verdict>
         requires { Remembered self.now.table.now known.old }
         ensures value { said_or result ≡ judged_rule self.now.table.now number }
+        ensures placed { IfOk result (Placed self.now.table.now number) }
         ensures remembered { Remembered self.now.table.now known.new }
     {
         if MAX_RULES < number {

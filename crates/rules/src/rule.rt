@@ -1,8 +1,8 @@
 // Tables of rules that no refusal applies to, and a rule of such a table, read where it stands.
-ghost use Rattle.std.specs.Prelude.{◌≡◌, ◌+◌, ◌-◌};
+ghost use Rattle.std.specs.Prelude.{◌≡◌, ◌+◌, ◌-◌, is_some, IfSome};
 ghost use Rattle.rules.specs.WellFormed.{WellFormedRule, WellFormedRules};
 
-use crate::table::{closing_from, left_from, right_from};
+use crate::table::{closing_from, has_rule, left_from, place, right_from};
 use circuit::checked::CONSTANTS;
 
 // The rules that an accepted table says.
@@ -18,6 +18,26 @@ pub struct Rule<'a> {
     pub table: &'a [u32],
     pub from: usize,
     ghost well_formed: { WellFormedRule table.now from },
+}
+
+impl<'a> Rules<'a> {
+    ghost use Rattle.rules.specs.Remembered.{Placed};
+    ghost use Rattle.rules.specs.Verdict.{has_rule};
+
+    // The rule of a number, sound or not, if there is one.
+    pub fn rule(&self, number: u32) -> Option<Rule<'a>>
+        ensures there { is_some result ≡ has_rule self.now.table.now number }
+        ensures placed { IfSome result (Placed self.now.table.now number) }
+    {
+        let table = self.table;
+        if !has_rule(table, number) {
+            return None;
+        }
+        Some(Rule {
+            table,
+            from: place(table, number),
+        })
+    }
 }
 
 impl Rule<'_> {

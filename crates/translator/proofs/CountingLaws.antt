@@ -150,7 +150,7 @@ module _ (t : List ℕ) (w : WellFormed t) (k : trim (decode t) ≡ decode t) (h
         )
 
     -- no more values leave than are held
-    departures-fit : departures (decode t) i (get_or (gate_lines t) i no_gate) ≤ held + arrive
+    pub departures-fit : departures (decode t) i (get_or (gate_lines t) i no_gate) ≤ held + arrive
     departures-fit = omega (arith, arrives, inv.now-held, pressure-enough (decode t) (trimmed-fixed t w k) i (omega (arith, gates-length t)))
 
     module _ (keep : ℕ)

@@ -26,27 +26,27 @@ allocation-same e f g = λ i. record { owners = e i; freed = f i; code = g i }
 
 -- ---- a value takes a register, which is d, and r' are the registers then
 
-module _ (r : Registers) (v : ℕ) (r' : Registers) (d : ℕ) (freed : r'.freed ≡ r.freed) (make : ℕ → Instruction) (code : List Instruction) where
+module _ (r : Registers) (v : ℕ) (r' : Registers) (d : ℕ) (freed : r'.freed.now ≡ r.freed.now) (make : ℕ → Instruction) (code : List Instruction) where
   abbrev Taken : Type 0
   Taken = allocation_with r' (code ++ (make d ∷ [])) ≡ assign v make (allocation_with r code)
 
   -- one that was never used
-  pub taken-fresh : r.free ≡ 0 → r.fresh < max_registers → d ≡ r.fresh → r'.owner ≡ set r.owner r.fresh (suc v) → r'.free ≡ r.free
+  pub taken-fresh : r.free ≡ 0 → r.fresh < max_registers → d ≡ r.fresh → r'.owner.now ≡ set r.owner.now r.fresh (suc v) → r'.free ≡ r.free
       → r'.fresh ≡ r.fresh + 1 → Taken
   unfolding assign
   taken-fresh e l q owner free fresh =
-      let o = owners-fresh r.owner r.freed r.place r.free r.fresh r.arrays v e l in
+      let o = owners-fresh r.owner.now r.freed.now r.place.now r.free r.fresh r.arrays v e l in
       allocation-same (ap₂ take fresh owner ∙ sym o.0) (ap₂ stack_of freed free ∙ sym o.1)
-      (ap (λ x. code ++ (make x ∷ [])) (q ∙ sym (next-fresh r.owner r.freed r.place r.free r.fresh r.arrays e)))
+      (ap (λ x. code ++ (make x ∷ [])) (q ∙ sym (next-fresh r.owner.now r.freed.now r.place.now r.free r.fresh r.arrays e)))
 
   -- or the one freed last
-  pub taken-freed : (n : ℕ) → r.free ≡ n + 1 → d ≡ get_or r.freed n 0 → r'.owner ≡ set r.owner (get_or r.freed n 0) (suc v) → r'.free ≡ n
+  pub taken-freed : (n : ℕ) → r.free ≡ n + 1 → d ≡ get_or r.freed.now n 0 → r'.owner.now ≡ set r.owner.now (get_or r.freed.now n 0) (suc v) → r'.free ≡ n
       → r'.fresh ≡ r.fresh → Taken
   unfolding assign
   taken-freed n e q owner free fresh =
-      let o = owners_freed r.owner r.freed r.place r.free r.fresh r.arrays v n e in
+      let o = owners_freed r.owner.now r.freed.now r.place.now r.free r.fresh r.arrays v n e in
       allocation-same (ap₂ take fresh owner ∙ sym o.0) (ap₂ stack_of freed free ∙ sym o.1)
-      (ap (λ x. code ++ (make x ∷ [])) (q ∙ sym (next-freed r.owner r.freed r.place r.free r.fresh r.arrays n e)))
+      (ap (λ x. code ++ (make x ∷ [])) (q ∙ sym (next-freed r.owner.now r.freed.now r.place.now r.free r.fresh r.arrays n e)))
 
 -- ---- a value has been read: it is kept, or its register is freed
 
@@ -56,13 +56,13 @@ release-none keep v s e = rw e
 
 pub release-freed : (r : Registers) (keep : Bool) (v : ℕ) → keep ≡ false → is_among (suc v) (owners_of r) ≡ true → r.free < max_registers
     → (code : List Instruction) → ◌≡◌ {A = Allocation} (record {
-      owners = take r.fresh (set r.owner (get_or r.place v 0) 0);
-      freed = stack_of (set r.freed r.free (get_or r.place v 0)) (r.free + 1);
+      owners = take r.fresh (set r.owner.now (get_or r.place.now v 0) 0);
+      freed = stack_of (set r.freed.now r.free (get_or r.place.now v 0)) (r.free + 1);
       code = code;
     }) (release keep v (allocation_with r code))
 unfolding release
 release-freed r keep v q e h code =
-    let o = owners-release r.owner r.freed r.place r.free r.fresh r.arrays v e h in
+    let o = owners-release r.owner.now r.freed.now r.place.now r.free r.fresh r.arrays v e h in
     rw q (allocation-same o.0 o.1 refl)
 
 -- ---- one part after the other

@@ -12,10 +12,10 @@ use Rattle.translator.specs.RegisterArrays.{stack_of}
 
 -- the owners of the registers ever used, and the stack of those that are free again
 abbrev pub owners_of : Registers → List ℕ
-owners_of r = take r.fresh r.owner
+owners_of r = take r.fresh r.owner.now
 
 abbrev pub freed_of : Registers → List ℕ
-freed_of r = stack_of r.freed r.free
+freed_of r = stack_of r.freed.now r.free
 
 abbrev pub allocation_with : Registers → (code : List Instruction) → Allocation
 allocation_with r code = record { owners = owners_of r; freed = freed_of r; code = code }

@@ -11,7 +11,7 @@ ghost use Rattle.translator.specs.LiveRange.{is_used_from};
 ghost use Rattle.translator.specs.Program.{emits, max_instructions};
 ghost use Rattle.translator.specs.Allocation.{no_registers, operated};
 ghost use Rattle.translator.specs.Allocator.{ensure_loaded, turned, outputs_loaded, allocation_at_end};
-ghost use Rattle.translator.specs.Registers.{instruction_at, code_of, allocation_of, Beyond, Represents, Loadable, Operable, Turnable};
+ghost use Rattle.translator.specs.Registers.{instruction_at, allocation_with, code_of, allocation_of, Beyond, Represents, Loadable, Operable, Turnable};
 
 use crate::last_use::LiveRanges;
 use crate::registers::Registers;
@@ -21,20 +21,21 @@ use circuit::checked::{Circuit, Gate};
 // The registers in use, and the program that fills them, of which so many instructions are written.
 #[derive(Drop)]
 pub struct Allocator<'a> {
-    pub registers: Registers,
+    pub registers: Registers<'a>,
     pub program: &'a mut [u32],
     pub written: usize,
 }
 
 impl<'a> Allocator<'a> {
     // No instruction is written yet.
-    pub fn new(program: &'a mut [u32]) -> Self
+    pub fn new(registers: Registers<'a>, program: &'a mut [u32]) -> Self
+        requires { allocation_with registers [] ≡ no_registers }
         ensures none { allocation_of result ≡ no_registers }
         ensures same_program { result.program.ghost_name ≡ program.entry.ghost_name }
         ensures same_numbers { result.program.now ≡ program.entry.now }
     {
         Allocator {
-            registers: Registers::new(),
+            registers,
             program,
             written: 0,
         }
@@ -109,7 +110,7 @@ impl<'a> Allocator<'a> {
         self.operate(ranges, gate, v, number);
     }
 
-    // All gates in order.
+    // All gates in order. The circuit is taken up anew, as a local value, which no turn has to read behind `ranges` again.
     pub fn allocate_gates(&mut self, ranges: &LiveRanges<'_>)
         requires need_bound { need (decode ranges.now.circuit) ≤ max_registers }
         requires none { allocation_of self.old ≡ no_registers }
@@ -118,9 +119,10 @@ impl<'a> Allocator<'a> {
         ensures allocation { Represents self.new self.old (outputs_loaded (decode ranges.now.circuit) 0) }
         ensures well_formed { WellFormed ranges.now.circuit }
     {
-        let first = ranges.circuit.first_gate() as usize;
-        for i in 0..ranges.circuit.gates() {
-            self.gate_turn(ranges, ranges.circuit.gate(i), first + i, i as u16 + 1);
+        let circuit = Circuit::of(ranges.circuit.table());
+        let first = circuit.first_gate() as usize;
+        for i in 0..circuit.gates() {
+            self.gate_turn(ranges, circuit.gate(i), first + i, i as u16 + 1);
         }
     }
 

@@ -1,5 +1,5 @@
 // The last use of each reference, which ends its live range (01, Register program, 9).
-ghost use Rattle.std.specs.Prelude.{◌≡◌, ℕ, ◌||◌, ◌<◌, ◌≤◌, eqb, get_or};
+ghost use Rattle.std.specs.Prelude.{◌≡◌, ℕ, ◌||◌, ◌<◌, ◌≤◌, eqb, replicate, get_or};
 ghost use Rattle.circuit.specs.Circuit.{max_references};
 ghost use Rattle.circuit.specs.Table.{gates, gate_lines, decode};
 ghost use Rattle.circuit.specs.Trim.{trim};
@@ -10,26 +10,27 @@ use circuit::checked::{Circuit, Gate, MAX_REFERENCES};
 
 // A trimmed circuit, the last use of each of its references, and how many different references its outputs are. A last use is the number of a
 // gate, counted from 1, or one more than there are gates for an output, and 0 is for none, as `last_use` of the specs has it: with an Option
-// there, every law would say besides how one becomes the other. As many gates as there may be can be counted in two bytes.
+// there, every law would say besides how one becomes the other. As many gates as there may be can be counted in two bytes. The array is lent,
+// so that nobody copies it with the struct.
 #[derive(Drop)]
 pub struct LiveRanges<'a> {
     pub circuit: Circuit<'a>,
-    last: [u16; MAX_REFERENCES],
+    last: &'a [u16; MAX_REFERENCES],
     pub distinct: u32,
     ghost trimmed: { trim (decode circuit) ≡ decode circuit },
-    ghost last_uses: { (v : ℕ) → get_or last v 0 ≡ last_use (decode circuit) v },
+    ghost last_uses: { (v : ℕ) → get_or last.now v 0 ≡ last_use (decode circuit) v },
     ghost distinct_outputs: { distinct ≡ count_distinct (decode circuit).outputs },
 }
 
 impl<'a> LiveRanges<'a> {
     // The live ranges of a trimmed circuit.
-    pub fn new(circuit: Circuit<'a>) -> Self
-        requires { trim (decode circuit) ≡ decode circuit }
+    pub fn new(circuit: Circuit<'a>, last: &'a mut [u16; MAX_REFERENCES]) -> Self
+        requires trimmed { trim (decode circuit) ≡ decode circuit }
+        requires empty { last.old ≡ replicate max_references 0 }
         ensures { result.circuit ≡ circuit.entry }
     {
-        let mut last = [0; MAX_REFERENCES];
-        mark_operands(&circuit, &mut last);
-        let distinct = mark_outputs(&circuit, &mut last);
+        mark_operands(&circuit, last);
+        let distinct = mark_outputs(&circuit, last);
         LiveRanges {
             circuit,
             last,

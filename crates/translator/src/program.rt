@@ -12,11 +12,12 @@ ghost use Rattle.translator.specs.Program.{program, encode_program, max_instruct
 ghost use Rattle.translator.specs.Registers.{instruction_at};
 ghost use Rattle.translator.specs.TranslateCall.{program_numbers, need_checks, translated, paper_values as translated_values};
 
-use crate::Translation;
 use crate::allocating::Allocator;
 use crate::last_use::LiveRanges;
 use crate::pressure::need;
-use circuit::checked::{Circuit, MAX_TABLE, SMALL_TABLE, trim};
+use crate::registers::Registers;
+use crate::{MAX_REGISTERS, Translation};
+use circuit::checked::{Circuit, MAX_REFERENCES, MAX_TABLE, SMALL_TABLE, trim};
 use lines::{Reason, Refusal, refuse_if};
 
 // The program of a trimmed circuit, and how many instructions it has.
@@ -27,7 +28,11 @@ fn write_program(ranges: &LiveRanges<'_>, buffer: &mut [u32]) -> usize
     ensures upper_bound { result ≤ max_instructions }
     ensures buffer_after { buffer.new ≡ over (encode_program (program (decode ranges.now.circuit))) buffer.old }
 {
-    let mut allocator = Allocator::new(buffer);
+    let mut owner = [0; MAX_REGISTERS];
+    let mut freed = [0; MAX_REGISTERS];
+    let mut place = [0; MAX_REFERENCES];
+    let registers = Registers::new(&mut owner, &mut freed, &mut place);
+    let mut allocator = Allocator::new(registers, buffer);
     allocator.allocate_gates(ranges);
     allocator.load_outputs(ranges);
     allocator.write_emits(&ranges.circuit);
@@ -71,7 +76,8 @@ fn translate_within<const N: usize>(
 {
     let mut work = [0u32; N];
     let end = trim(circuit, &mut work);
-    let ranges = LiveRanges::new(Circuit::of(&work[..end]));
+    let mut last = [0; MAX_REFERENCES];
+    let ranges = LiveRanges::new(Circuit::of(&work[..end]), &mut last);
     translate_trimmed(&ranges, limit, buffer)
 }
 

@@ -1,5 +1,5 @@
 // Which register holds which value (01, Register program, 9). What a place says counts only if the owner agrees.
-ghost use Rattle.std.specs.Prelude.{◌≡◌, true, false, List, ℕ, suc, ◌+◌, ◌-◌, ◌<◌, ◌≤◌, ◌++◌, [], ◌∷◌, length, set, get_or};
+ghost use Rattle.std.specs.Prelude.{◌≡◌, true, false, List, ℕ, suc, ◌+◌, ◌-◌, ◌<◌, ◌≤◌, ◌++◌, [], ◌∷◌, length, replicate, set, get_or};
 ghost use Rattle.circuit.specs.Circuit.{max_references};
 ghost use Rattle.circuit.specs.Path.{is_among};
 ghost use Rattle.translator.specs.Machine.{Instruction, max_registers};
@@ -11,30 +11,38 @@ use circuit::checked::MAX_REFERENCES;
 
 // `owner` says for each register 0 or 1 more than the reference whose value it holds, as `Allocation` of the specs does: with an Option
 // there, every law would say besides how one becomes the other. The first `free` of `freed` are a stack of the free registers among the
-// first `fresh`, which are those ever used, and `place` spares the search for a value's register.
+// first `fresh`, which are those ever used, and `place` spares the search for a value's register. The arrays are lent, since beside arrays of
+// its own, which are read at any index, the struct's two counts would be kept in memory as well.
 #[derive(Drop)]
-pub struct Registers {
-    pub owner: [u16; MAX_REGISTERS],
-    pub freed: [u16; MAX_REGISTERS],
+pub struct Registers<'a> {
+    pub owner: &'a mut [u16; MAX_REGISTERS],
+    pub freed: &'a mut [u16; MAX_REGISTERS],
     pub free: usize,
     pub fresh: usize,
-    pub place: [u16; MAX_REFERENCES],
-    pub ghost arrays: { RegisterArrays owner freed place free fresh },
+    pub place: &'a mut [u16; MAX_REFERENCES],
+    pub ghost arrays: { RegisterArrays owner.now freed.now place.now free fresh },
 }
 
-impl Registers {
+impl<'a> Registers<'a> {
     ghost use Rattle.translator.specs.Registers.{owners_of, freed_of, allocation_with};
 
     // Nothing is in any register, and none was ever used.
-    pub fn new() -> Self
+    pub fn new(
+        owner: &'a mut [u16; MAX_REGISTERS],
+        freed: &'a mut [u16; MAX_REGISTERS],
+        place: &'a mut [u16; MAX_REFERENCES],
+    ) -> Self
+        requires owner_empty { owner.old ≡ replicate max_registers 0 }
+        requires freed_empty { freed.old ≡ replicate max_registers 0 }
+        requires place_empty { place.old ≡ replicate max_references 0 }
         ensures { (code : List Instruction) → allocation_with result code ≡ record { owners = []; freed = []; code = code } }
     {
         Registers {
-            owner: [0; MAX_REGISTERS],
-            freed: [0; MAX_REGISTERS],
+            owner,
+            freed,
             free: 0,
             fresh: 0,
-            place: [0; MAX_REFERENCES],
+            place,
         }
     }
 
@@ -43,7 +51,9 @@ impl Registers {
         requires { v < max_references }
         ensures { result ≡ is_among (suc v) (owners_of self.now) }
     {
-        self.owner[self.place[v] as usize] == v as u16 + 1
+        let owner = &*self.owner;
+        let place = &*self.place;
+        owner[place[v] as usize] == v as u16 + 1
     }
 
     // The register of v, which is in one.
@@ -52,7 +62,8 @@ impl Registers {
         requires held { is_among (suc v) (owners_of self.now) ≡ true }
         ensures { result ≡ register_of (owners_of self.now) v }
     {
-        self.place[v]
+        let place = &*self.place;
+        place[v]
     }
 
     // v, which is in no register, is put into d, which was used before.
@@ -61,8 +72,8 @@ impl Registers {
         requires absent { is_among (suc v) (owners_of self.old) ≡ false }
         requires used { d < self.old.fresh }
         ensures value { result ≡ d }
-        ensures owner { self.new.owner ≡ set self.old.owner d (suc v) }
-        ensures freed { self.new.freed ≡ self.old.freed }
+        ensures owner { self.new.owner.now ≡ set self.old.owner.now d (suc v) }
+        ensures freed { self.new.freed.now ≡ self.old.freed.now }
         ensures free { self.new.free ≡ self.old.free }
         ensures fresh { self.new.fresh ≡ self.old.fresh }
     {

@@ -20,7 +20,7 @@ returns c =
     (ap applied_number c.err.ensures.value
     ∙ err-number c.judged.result
     ∙ said-number c.judged.result
-    ∙ ap number_of c.judged.ensures
+    ∙ ap number_of c.judged.ensures.value
     ∙ judged-number _ _
     ∙ ap (λ t. judgement t c.args.number) c.in_ok-rules.ensures.accepted)
     ∙ sym (answer-gives _ _ (all-passed _ c.in_ok-rules.ensures.refusal))

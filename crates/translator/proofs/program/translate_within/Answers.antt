@@ -13,8 +13,8 @@ of-requires g c = let r = c.trim-end in
     let t = c.args.circuit.now in
     rw (front-is (trim_of t) _ r.new.out r.ensures.out_after r.result r.ensures.value) (trimmed-is-well-formed t c.requires.well_formed)
 
-pub new-ranges-requires : goal.new-ranges-requires
-new-ranges-requires g c = let r = c.trim-end in
+pub new-ranges-requires-clause-trimmed : goal.new-ranges-requires-clause-trimmed
+new-ranges-requires-clause-trimmed g c = let r = c.trim-end in
     let t = c.args.circuit.now in
     rw (c.of.ensures ∙ front-is (trim_of t) _ r.new.out r.ensures.out_after r.result r.ensures.value) (trimmed-again t c.requires.well_formed)
 

@@ -1,5 +1,6 @@
 -- Three parts one after the other, each of which finds what the one before it promises; `program-written` reads the program off the last buffer.
 use mathlib.Core.Path.{◌≡◌, ◌∙◌, ap}
+use mathlib.Core.List.{[]}
 use native.Mathlib.Omega.{arith}
 use lib.ListN.{length}
 use Rattle.lines.specs.Calls.{over}
@@ -11,6 +12,9 @@ use Rattle.translator.proofs.ShapeLaws.{program-limit}
 use Rattle.translator.proofs.ProgramLaws.{end-held, emits-fit, program-written}
 use borrow.Author.Rules.{rules}
 use Rattle.translator.proofs.program.write_program.Goals as goal
+
+pub new-allocator-requires : goal.new-allocator-requires
+new-allocator-requires c = c.new-registers.ensures []
 
 pub write_emits-requires-clause-held : goal.write_emits-requires-clause-held
 write_emits-requires-clause-held c = let t = c.args.ranges.now.circuit in

@@ -27,7 +27,7 @@ returns-in_err-b-clause-value c =
     let t = c.circuit-circuit in
     rw (p.1, p.2)
     (site-failing t.result rs (state_of a.self a.current.now) t.ensures.value (site a.number a.gate a.mask) (said c.in_ok-rule.rule)
-    c.in_ok-rule.ensures.value c.in_err-b.field-0.0 c.in_err-b.ensures)
+    c.in_ok-rule.ensures.value c.in_err-b.field-0.0 c.in_err-b.ensures.passed)
 
 pub returns-in_err-check_size-clause-value : goal.returns-in_err-check_size-clause-value
 returns-in_err-check_size-clause-value c =
@@ -37,7 +37,7 @@ returns-in_err-check_size-clause-value c =
     let t = c.circuit-circuit in
     rw (p.1, p.2)
     (site-large t.result rs (state_of a.self a.current.now) t.ensures.value (site a.number a.gate a.mask) (said c.in_ok-rule.rule)
-    c.in_ok-rule.ensures.value c.in_ok-b.b c.in_ok-b.ensures c.in_err-check_size.field-0.0 c.in_err-check_size.ensures)
+    c.in_ok-rule.ensures.value c.in_ok-b.b c.in_ok-b.ensures.passed c.in_err-check_size.field-0.0 c.in_err-check_size.ensures)
 
 pub replace-end-requires : goal.replace-end-requires
 replace-end-requires c =
@@ -46,7 +46,7 @@ replace-end-requires c =
     let t = c.circuit-circuit in
     let (gate, below, size) =
     replacing-asks t.result rs (state_of a.self a.current.now) t.ensures.value (site a.number a.gate a.mask) (said c.in_ok-rule.rule)
-    c.in_ok-rule.ensures.value c.in_ok-b.b c.in_ok-b.ensures
+    c.in_ok-rule.ensures.value c.in_ok-b.b c.in_ok-b.ensures.passed
     t.ensures.well_formed a.rules.now.well_formed c.in_ok-check_size.ensures in
     record { gate_value = gate; bound_below = below; within_size = size; max_table_in_bounds = c.requires.max_table_in_bounds }
 
@@ -58,7 +58,7 @@ of-requires c =
     let e = c.replace-end in
     let made = front-is _ a.work.now e.new.out e.ensures.out_after e.result e.ensures.value in
     (replaced-asks t.result rs (state_of a.self a.current.now) t.ensures.value (site a.number a.gate a.mask) (said c.in_ok-rule.rule)
-    c.in_ok-rule.ensures.value c.in_ok-b.b c.in_ok-b.ensures
+    c.in_ok-rule.ensures.value c.in_ok-b.b c.in_ok-b.ensures.passed
     t.ensures.well_formed a.rules.now.well_formed c.in_ok-check_size.ensures _ made).0
 
 pub settle-requires-clause-same_below : goal.settle-requires-clause-same_below
@@ -70,7 +70,7 @@ settle-requires-clause-same_below c =
     let made = front-is _ a.work.now e.new.out e.ensures.out_after e.result e.ensures.value in
     rw c.of.ensures
     (replaced-asks t.result rs (state_of a.self a.current.now) t.ensures.value (site a.number a.gate a.mask) (said c.in_ok-rule.rule)
-    c.in_ok-rule.ensures.value c.in_ok-b.b c.in_ok-b.ensures
+    c.in_ok-rule.ensures.value c.in_ok-b.b c.in_ok-b.ensures.passed
     t.ensures.well_formed a.rules.now.well_formed c.in_ok-check_size.ensures _ made).1
 
 pub returns-clause-value : goal.returns-clause-value
@@ -82,5 +82,5 @@ returns-clause-value c =
     let made = front-is _ a.work.now e.new.out e.ensures.out_after e.result e.ensures.value in
     (rw c.of.ensures at c.settle.ensures.value)
     ∙ replaced-step t.result rs (state_of a.self a.current.now) t.ensures.value (site a.number a.gate a.mask) (said c.in_ok-rule.rule)
-    c.in_ok-rule.ensures.value c.in_ok-b.b c.in_ok-b.ensures
+    c.in_ok-rule.ensures.value c.in_ok-b.b c.in_ok-b.ensures.passed
     t.ensures.well_formed a.rules.now.well_formed c.in_ok-check_size.ensures _ made

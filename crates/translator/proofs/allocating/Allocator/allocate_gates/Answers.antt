@@ -1,6 +1,6 @@
 -- The invariant: the registers and the buffer represent the allocation after the gates so far; a turn is `gate-ready` before it and
 -- `gate-done` after it.
-use mathlib.Core.Path.{◌≡◌, refl, sym, ◌∙◌}
+use mathlib.Core.Path.{◌≡◌, refl, sym, ap, ◌∙◌}
 use native.Mathlib.Omega.{arith}
 use Rattle.circuit.specs.Circuit.{gate_of}
 use Rattle.circuit.specs.Table.{gates, decode}
@@ -21,24 +21,26 @@ gate_turn-requires-clause-turnable c = let a = c.args in
     let l = c.loop-i in
     let g = c.gate in
     let b = l.invariant.allocation in
-    let first = c.first_gate-first.ensures in
-    rw first.value
-    (gate-ready a.ranges.now.circuit first.well_formed a.ranges.now.trimmed l.i (omega arith) (gate_of g.result) (sym g.ensures.value)
+    let e : c.of-circuit.result ≡ a.ranges.now.circuit = c.of-circuit.ensures ∙ c.table.ensures.value in
+    rw (c.first_gate-first.ensures.value, e)
+    (gate-ready a.ranges.now.circuit c.table.ensures.well_formed a.ranges.now.trimmed l.i (omega (arith, ap gates e)) (gate_of g.result)
+    (sym (rw e at g.ensures.value))
     c.requires.need_bound _ b.allocation _ (omega (arith, c.requires.max_instructions_in_bounds, b.kept.long)))
 
 pub loop-i-preserved : goal.loop-i-preserved
 loop-i-preserved c = let a = c.args in
     let l = c.loop-i in
     let g = c.gate in
-    let first = c.first_gate-first.ensures in
+    let e : c.of-circuit.result ≡ a.ranges.now.circuit = c.of-circuit.ensures ∙ c.table.ensures.value in
     record {
       below = search rules;
       same_program = c.gate_turn.ensures.same_program ∙ l.invariant.same_program;
-      allocation = gate-done a.ranges.now.circuit first.well_formed a.ranges.now.trimmed l.i (omega arith) (gate_of g.result)
-          (sym g.ensures.value) _ _ _ l.invariant.allocation (rw first.value at c.gate_turn.ensures.allocation);
+      allocation = gate-done a.ranges.now.circuit c.table.ensures.well_formed a.ranges.now.trimmed l.i (omega (arith, ap gates e))
+          (gate_of g.result) (sym (rw e at g.ensures.value)) _ _ _ l.invariant.allocation
+          (rw (c.first_gate-first.ensures.value, e) at c.gate_turn.ensures.allocation);
     }
 
 pub returns-clause-allocation : goal.returns-clause-allocation
 returns-clause-allocation c = let l = c.loop-i in
-    let e : l.i ≡ gates c.args.ranges.now.circuit = omega arith in
-    represents-same (gates-all c.args.ranges.now.circuit l.i e) l.invariant.allocation
+    let e : c.of-circuit.result ≡ c.args.ranges.now.circuit = c.of-circuit.ensures ∙ c.table.ensures.value in
+    represents-same (gates-all c.args.ranges.now.circuit l.i (omega (arith, ap gates e))) l.invariant.allocation

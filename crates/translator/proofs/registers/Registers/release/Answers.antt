@@ -11,14 +11,14 @@ returns-then-keep c = λ code. release-none c.args.keep c.args.v _ c.if-keep.tru
 
 pub bounds-self-self : goal.bounds-self-self
 bounds-self-self c = let r = c.args.self.now in
-    omega (arith, c.requires.free_lt_max_registers c.if-keep.false, stack-length r.freed r.free)
+    omega (arith, c.requires.free_lt_max_registers c.if-keep.false, stack-length r.freed.now r.free)
 
 pub invariant_of-self : goal.invariant_of-self
 invariant_of-self c = let r = c.args.self.now in
-    let room : r.free < max_registers = omega (arith, c.requires.free_lt_max_registers c.if-keep.false, stack-length r.freed r.free) in
+    let room : r.free < max_registers = omega (arith, c.requires.free_lt_max_registers c.if-keep.false, stack-length r.freed.now r.free) in
     record { arrays = arrays-release _ _ _ _ _ r.arrays c.args.v c.requires.held room }
 
 pub returns : goal.returns
 returns c = let r = c.args.self.now in
-    let room : r.free < max_registers = omega (arith, c.requires.free_lt_max_registers c.if-keep.false, stack-length r.freed r.free) in
+    let room : r.free < max_registers = omega (arith, c.requires.free_lt_max_registers c.if-keep.false, stack-length r.freed.now r.free) in
     release-freed r c.args.keep c.args.v c.if-keep.false c.requires.held room
