@@ -12,13 +12,12 @@ use crate::reverse_depth::reverse_depths;
 use crate::table::{CLOSING, Circuit, MAX_REFERENCES, SMALL_REFERENCES};
 use lines::checked::write_row;
 
-// The head and the starting lines, over the front of out. By a loop: with `copy_over` the archive for C would ask for `memmove`, which callers
+// A table's head and starting lines, over the front of out. By a loop: with `copy_over` the archive for C would ask for `memmove`, which callers
 // without a C library need not have.
-fn copy_front(circuit: &Circuit<'_>, out: &mut [u32])
-    requires { gates_from circuit.now ≤ length out.old }
-    ensures { out.new ≡ over (take (gates_from circuit.now) circuit.now) out.old }
+fn copy_front(front: &[u32], out: &mut [u32])
+    requires { length front.now ≤ length out.old }
+    ensures { out.new ≡ over front.now out.old }
 {
-    let front = circuit.front();
     for (i, &number) in front.iter().enumerate() {
         out[i] = number;
     }
@@ -141,7 +140,7 @@ pub fn trim_by_reverse_depths(
     ensures value { result ≡ length (trim_of circuit.now) }
 {
     let front = circuit.front();
-    copy_front(circuit, out);
+    copy_front(front, out);
     let kept = write_gates(circuit, u, names, out);
     let end = write_closings(circuit, names, out, front.len() + 3 * kept as usize);
     out[1] = kept;

@@ -26,6 +26,6 @@ returns c = let t = c.args.circuit.now in
     record {
       out_after = trim-stores t n w.result front.ensures.whole w.ensures.value
           (omega (arith, length-take (length front.result.now) t, ap length lines)) c.args.out.now _ _ _ _ c.requires.t_in_bounds_3
-          (c.copy_front.ensures ∙ ap (λ k. over (take k t) c.args.out.now) (sym front.ensures.whole)) w.ensures.out_after closed.out_after refl;
+          (c.copy_front.ensures ∙ ap (λ l. over l c.args.out.now) lines) w.ensures.out_after closed.out_after refl;
       value = closed.value ∙ trim_end t n w.result front.ensures.whole w.ensures.value;
     }
