@@ -8,18 +8,20 @@ use native.Mathlib.Decide.{dec_lt}
 use lib.Dec.{eqb, leb}
 use lib.ListN.{drop}
 use borrow.Author.Tests.{eq-eqb, ne_eqb, eqb-true, eqb-false, lt-ltb, le-ltb, leb-true}
-use Rattle.std.specs.Prelude.{Result, Ok}
+use Rattle.std.specs.Prelude.{Result, Ok, Err}
 use Rattle.lists.proofs.Tests.{right_of}
+use Rattle.lists.proofs.First.{first-false}
 use Rattle.circuit.specs.Circuit.{Circuit}
 use Rattle.circuit.proofs.TableLaws.{lines-length}
 use Rattle.rules.specs.Match.{start_bindings, attempt}
+use Rattle.rules.specs.Rule.{Rule}
 use Rattle.rules.specs.RuleTable.{lefts_at, left_from, rule_at, rule_of}
 use Rattle.rules.specs.declared.Verdict.{Verdict}
 use Rattle.rules.specs.declared.rule.Rule.{Rule as TableRule}
 use Rattle.rules.specs.Remembered.{said, said_or, judged_rule}
 use Rattle.rules.specs.Verdict.{passes, judgement, early_verdict, verdict_number, number_of}
 use Rattle.rules.proofs.VerdictLaws.{verdict_some}
-use Rattle.rules.proofs.JudgedLaws.{judged-facts, judged-number, said-number}
+use Rattle.rules.proofs.JudgedLaws.{judged-facts, judged-number, judged-verdict}
 use Rattle.finder.specs.Search.{Searched, max_ways, whole_search, first_match, over_limit, within}
 use Rattle.finder.specs.FindCall.{a_mask, no_mask, spent, searched_values, found_values, is_limit}
 use Rattle.finder.proofs.LimitLaws.{within-limit, beyond-limit, found_after}
@@ -97,24 +99,44 @@ module _ (c : Circuit) (t : List ℕ) (rule gate n : ℕ) where
             | no l ↦ searched s.matched refl (omega arith) z
           ])
 
--- ---- what is found of a rule, of which the judge said j
+-- ---- what is found of a rule, by what the judge says
 
-module _ (c : Circuit) (t : List ℕ) (rule gate n : ℕ) (j : Result TableRule Verdict) (e : said_or j ≡ judged_rule t rule) where
-  judge-says : early_verdict c (number_of j) gate ≡ early_verdict c (judgement t rule) gate
-  judge-says = ap (λ k. early_verdict c k gate) (said-number j ∙ ap number_of e ∙ judged-number t rule)
-
+module _ (c : Circuit) (t : List ℕ) (rule gate n : ℕ) where
   -- the verdict before the search is v
-  pub failing-values : (v : Verdict) → verdict_number v ≡ early_verdict c (number_of j) gate → verdict_number v ∷ 0 ∷ 0 ∷ [] ≡ found_values c t rule gate n
-  failing-values v q =
-      let h = q ∙ judge-says in
-      ap (λ (x : ℕ). x ∷ 0 ∷ 0 ∷ []) h ∙ sym (in-verdict c t rule gate n (λ z. verdict_some v (h ∙ z)))
+  verdict-values : (v : Verdict) → verdict_number v ≡ early_verdict c (judgement t rule) gate → verdict_number v ∷ 0 ∷ 0 ∷ [] ≡ found_values c t rule gate n
+  verdict-values v e = ap (λ (x : ℕ). x ∷ 0 ∷ 0 ∷ []) e ∙ sym (in-verdict c t rule gate n (λ z. verdict_some v (e ∙ z)))
+
+  pub refused-values : (v : Verdict) → Err v ≡ judged_rule t rule → verdict_number v ∷ 0 ∷ 0 ∷ [] ≡ found_values c t rule gate n
+  refused-values v e =
+      let j = judged-verdict t rule v e in
+      verdict-values v (j ∙ sym (first-false _ _ (ne_eqb (judgement t rule) passes (λ z. verdict_some v (j ∙ z)))))
 
   -- the judge has passed the rule, which is u
-  pub passed-values : (u : TableRule) → j ≡ Ok u → passes ≡ early_verdict c (number_of j) gate
+  module _ (u : Rule) (e : Ok u ≡ judged_rule t rule) where
+    from-gate : early_verdict c passes gate ≡ early_verdict c (judgement t rule) gate
+    from-gate = ap (λ j. early_verdict c j gate) (ap number_of e ∙ judged-number t rule)
+
+    pub failing-values : (v : Verdict) → verdict_number v ≡ early_verdict c passes gate → verdict_number v ∷ 0 ∷ 0 ∷ [] ≡ found_values c t rule gate n
+    failing-values v q = verdict-values v (q ∙ from-gate)
+
+    pub passed-values : passes ≡ early_verdict c passes gate → (s : Searched) → s ≡ within n (first_match (whole_search c u gate))
+        → searched_values n s ≡ found_values c t rule gate n
+    passed-values q s h =
+        in-found c t rule gate n s (sym (q ∙ from-gate))
+        (h ∙ ap (λ u. within n (first_match (whole_search c u gate))) (judged-facts t rule u e).2)
+
+  -- the judge has said j
+  pub judged-failing-values : (j : Result TableRule Verdict) → said_or j ≡ judged_rule t rule
+      → (v : Verdict) → verdict_number v ≡ early_verdict c (number_of j) gate → verdict_number v ∷ 0 ∷ 0 ∷ [] ≡ found_values c t rule gate n
+  judged-failing-values (Ok u) e v q = failing-values (said u) e v q
+  judged-failing-values (Err w) e v q =
+      let h = q ∙ first-false _ _ (ne_eqb (verdict_number w) passes (verdict_some w)) in
+      ap (λ (x : ℕ). x ∷ 0 ∷ 0 ∷ []) h ∙ refused-values w e
+
+  pub judged-passed-values : (j : Result TableRule Verdict) → said_or j ≡ judged_rule t rule
+      → (u : TableRule) → j ≡ Ok u → passes ≡ early_verdict c (number_of j) gate
       → (s : Searched) → s ≡ within n (first_match (whole_search c (said u) gate)) → searched_values n s ≡ found_values c t rule gate n
-  passed-values u k q s h =
-      in-found c t rule gate n s (sym (q ∙ judge-says))
-      (h ∙ ap (λ u. within n (first_match (whole_search c u gate))) (judged-facts t rule (said u) (ap said_or (sym k) ∙ e)).2)
+  judged-passed-values j e u k q = passed-values (said u) (ap said_or (sym k) ∙ e) (q ∙ ap (λ x. early_verdict c (number_of x) gate) k)
 
 -- ---- the limit
 

@@ -16,7 +16,7 @@ use Rattle.circuit.specs.Path.{is_gate}
 use Rattle.rules.specs.declared.Verdict.{Verdict}
 use Rattle.rules.specs.declared.Verdict.TheVariants.{NoRule, NotSound}
 use Rattle.rules.specs.Rule.{Rule, max_rules}
-use Rattle.rules.specs.RuleTable.{rule_at, rule_of}
+use Rattle.rules.specs.RuleTable.{rule_at, place_of, rule_of}
 use Rattle.rules.specs.Soundness.{is_sound}
 use Rattle.rules.specs.Verdict.{SiteMatch, passes, no_rule, not_sound, not_a_gate, has_rule, judgement, early_verdict, failing, verdict_number, number_of, match_at, match_site, match_judged}
 use Rattle.rules.specs.Remembered.{said, said_or, judged_rule, Placed, Remembered}
@@ -30,18 +30,26 @@ module _ (t : List ℕ) (rule : ℕ) where
   unfolding judged_rule
   judged-missing h = rw h
 
+  -- p is where the rule begins
+  module _ (h : has_rule t rule ≡ true) (p : ℕ) (e : p ≡ place_of t rule) where
+    pub judged-unsound : is_sound (rule_at t p) ≡ false → Err NotSound ≡ judged_rule t rule
+    unfolding judged_rule
+    judged-unsound s = rw (h, ← e, s)
+
+    pub judged-sound : is_sound (rule_at t p) ≡ true → Ok (rule_at t p) ≡ judged_rule t rule
+    unfolding judged_rule
+    judged-sound s = rw (h, ← e, s)
+
   -- u is the rule of that number
   module _ (h : has_rule t rule ≡ true) (u : TableRule) (p : Placed t rule u) where
     placed-said : said u ≡ rule_of t rule
     placed-said = ap₂ rule_at p.table p.from
 
-    pub judged-unsound : is_sound (said u) ≡ false → Err NotSound ≡ judged_rule t rule
-    unfolding judged_rule
-    judged-unsound s = rw (h, ap is_sound (sym placed-said) ∙ s)
+    pub placed-unsound : is_sound (said u) ≡ false → Err NotSound ≡ judged_rule t rule
+    placed-unsound s = judged-unsound h (place_of t rule) refl (ap is_sound (sym placed-said) ∙ s)
 
-    pub judged-sound : is_sound (said u) ≡ true → Ok (said u) ≡ judged_rule t rule
-    unfolding judged_rule
-    judged-sound s = rw (h, placed-said, ap is_sound (sym placed-said) ∙ s)
+    pub placed-sound : is_sound (said u) ≡ true → Ok (said u) ≡ judged_rule t rule
+    placed-sound s = ap Ok placed-said ∙ judged-sound h (place_of t rule) refl (ap is_sound (sym placed-said) ∙ s)
 
   -- a number that no table has
   pub judged-beyond : WellFormedRules t → max_rules < rule → Err NoRule ≡ judged_rule t rule
@@ -164,6 +172,21 @@ none_at zero r = refl
 none_at (suc n) zero = refl
 none_at (suc n) (suc r) = none_at n r
 
+module _ (known : List (Option (Result TableRule Verdict))) (long : length known ≡ max_rules + 1) (rule : ℕ) (h : rule ≤ max_rules) where
+  -- what holds of each that is kept, and of j, holds of each when j is kept too
+  pub kept-more : (P : Result TableRule Verdict → ℕ → Type 0) (j : Result TableRule Verdict) → P j rule
+      → ((r : ℕ) (k : Result TableRule Verdict) → get_or known r None ≡ Some k → P k r)
+      → (r : ℕ) (k : Result TableRule Verdict) → get_or (set known rule (Some j)) r None ≡ Some k → P k r
+  kept-more P j new old r k n = go (eqb r rule) refl
+    where
+      go : (b : Bool) → eqb r rule ≡ b → P k r
+      go true q =
+          let same = get_or-set_same known rule (Some j) None (omega (arith, long)) in
+          let z : Some j ≡ Some k = sym same ∙ (rw (eqb-true r rule q) at n) in
+          let y : k ≡ j = cc in
+          rw (eqb-true r rule q, y) new
+      go false q = old r k (sym (get_or-set_other known rule r (Some j) None (eqb-false r rule q)) ∙ n)
+
 module _ (t : List ℕ) where
   pub remembered-none : (known : List (Option (Result TableRule Verdict))) → known ≡ replicate (max_rules + 1) None → Remembered t known
   remembered-none known e =
@@ -181,19 +204,6 @@ module _ (t : List ℕ) where
     remembered-more j e p =
         record {
           long = length-set known rule (Some j) ∙ m.long;
-          right = λ r k n. either r k n (λ x y. said_or x ≡ judged_rule t y) e (m.right r k);
-          placed = λ r k n. either r k n (λ x y. IfOk x (Placed t y)) p (m.placed r k);
+          right = kept-more known m.long rule h (λ x r. said_or x ≡ judged_rule t r) j e m.right;
+          placed = kept-more known m.long rule h (λ x r. IfOk x (Placed t r)) j p m.placed;
         }
-      where
-        -- what is kept for r is j, or what was kept
-        either : (r : ℕ) (k : Result TableRule Verdict) → get_or (set known rule (Some j)) r None ≡ Some k → (P : Result TableRule Verdict → ℕ → Type 0)
-            → P j rule → (get_or known r None ≡ Some k → P k r) → P k r
-        either r k n P new old = go (eqb r rule) refl
-          where
-            go : (b : Bool) → eqb r rule ≡ b → P k r
-            go true q =
-                let same = get_or-set_same known rule (Some j) None (omega (arith, m.long)) in
-                let z : Some j ≡ Some k = sym same ∙ (rw (eqb-true r rule q) at n) in
-                let y : k ≡ j = cc in
-                rw (eqb-true r rule q, y) new
-            go false q = old (sym (get_or-set_other known rule r (Some j) None (eqb-false r rule q)) ∙ n)

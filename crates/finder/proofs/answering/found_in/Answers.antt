@@ -1,4 +1,4 @@
--- A verdict that applies (`failing-values`), else the search by the rule that the judge has passed (`passed-values`).
+-- A verdict that applies (`judged-failing-values`), else the search by the rule that the judge has passed (`judged-passed-values`).
 use mathlib.Core.Path.{◌∙◌}
 use Rattle.std.proofs.lemmas.Result.{err_from_is_err_and}
 use Rattle.circuit.specs.Table.{decode}
@@ -6,14 +6,14 @@ use Rattle.rules.specs.Verdict.{number_of}
 use Rattle.rules.proofs.MatchLaws.{gate-below}
 use Rattle.rules.proofs.VerdictLaws.{early-gate}
 use Rattle.finder.specs.Search.{searched_of}
-use Rattle.finder.proofs.CallLaws.{failing-values, passed-values}
+use Rattle.finder.proofs.CallLaws.{judged-failing-values, judged-passed-values}
 use Rattle.finder.proofs.answering.found_in.Goals as goal
 
 pub returns-in_err-rule : goal.returns-in_err-rule
 returns-in_err-rule c = let a = c.args in
     let p = err_from_is_err_and c.from_residual.result c.from_residual.ensures.1 in
     rw (p.1, p.2)
-    (failing-values (decode a.c.now) a.rules.now.table.now a.number a.gate a.limit c.judged.result c.judged.ensures.value
+    (judged-failing-values (decode a.c.now) a.rules.now.table.now a.number a.gate a.limit c.judged.result c.judged.ensures.value
     c.in_err-rule.field-0.0 c.in_err-rule.ensures.value)
 
 pub search_at-requires : goal.search_at-requires
@@ -28,5 +28,5 @@ search_at-requires c = let a = c.args in (
 pub returns : goal.returns
 returns c = let a = c.args in
     c.found_by.ensures
-    ∙ passed-values (decode a.c.now) a.rules.now.table.now a.number a.gate a.limit c.judged.result c.judged.ensures.value
+    ∙ judged-passed-values (decode a.c.now) a.rules.now.table.now a.number a.gate a.limit c.judged.result c.judged.ensures.value
     c.in_ok-rule.rule c.in_ok-rule.ensures.passed c.in_ok-rule.ensures.value (searched_of c.search_at.result) c.search_at.ensures
