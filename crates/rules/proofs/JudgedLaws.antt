@@ -1,4 +1,4 @@
--- What the judge finds of a rule, its place or a verdict: what this leads to, and how it is kept by rule number. Assumes nothing.
+-- What the judge finds of a number, the rule or a verdict: what this leads to, and how it is kept by rule number. Assumes nothing.
 use mathlib.Core.Path.{◌≡◌, refl, sym, ap, ap₂, ◌∙◌}
 use mathlib.Core.Bool.{Bool, true, false, not}
 use mathlib.Core.List.{List}
